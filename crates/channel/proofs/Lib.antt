@@ -1,0 +1,17 @@
+pub mod Wire
+pub mod Lookup
+pub mod Numbers
+pub mod Entries
+pub mod Sound
+pub mod Room
+pub mod SoundStep
+pub mod Clauses
+pub mod Meaning
+pub mod Written
+pub mod Faithful
+pub mod Run
+pub mod Routes
+pub mod Demand
+pub mod Promises
+pub mod Answers
+pub mod Edges

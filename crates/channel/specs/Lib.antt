@@ -1,0 +1,13 @@
+pub mod Wire
+pub mod State
+pub mod Call
+pub mod Read
+pub mod Change
+pub mod Decide
+pub mod Step
+pub mod Raw
+pub mod Sound
+pub mod Called
+pub mod Answers
+pub mod Demand
+pub mod Edges

@@ -1,0 +1,4 @@
+pub mod Tests
+pub mod Clauses
+pub mod Lists
+pub mod Bits

@@ -1,0 +1,1 @@
+// Mathematics that several proofs share: the definitions are in specs/, the laws in proofs/.
