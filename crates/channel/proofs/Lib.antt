@@ -1,3 +1,4 @@
+pub mod Edges
 pub mod Wire
 pub mod Lookup
 pub mod Numbers
@@ -14,4 +15,3 @@ pub mod Routes
 pub mod Demand
 pub mod Promises
 pub mod Answers
-pub mod Edges

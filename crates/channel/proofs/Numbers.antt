@@ -99,10 +99,14 @@ free (suc k) n ps h l e =
     ap (λ m. isUsed m ps) (free-step k n ps t) ∙ free k (after n) ps (mod-lt (n + 1) (omega arith)) (omega arith) (omega arith))
     (λ t. ap (λ m. isUsed m ps) (free-here k n ps t) ∙ t)
 
+-- 33 tries are enough from any number
+enough-tries : (n : ℕ) (ps : List Place) → n < numbersInAll → length ps ≡ placeCount → isUsed (freeFrom 33 n ps) ps ≡ false
+enough-tries n ps h c = let a = near-all 34 n ps in free 33 n ps h (omega arith) (omega arith)
+
 -- THE THEOREM: not in the table
 pub next-unused : (t : Table) → length (t .places) ≡ placeCount → isUsed (nextNumber t) (t .places) ≡ false
 unfolding nextNumber
-next-unused t c = let a = near-all 34 (after (t .last)) (t .places) in free 33 (after (t .last)) (t .places) (omega arith) (omega arith) (omega arith)
+next-unused t c = enough-tries _ (t .places) (omega arith) c
 
 -- the first from n on that is not in the table: some numbers in a row from n on are used, and the one after them is m
 pub data FirstFrom (ps : List Place) : ℕ → ℕ → Type 0 where
@@ -120,4 +124,4 @@ first (suc k) n ps u =
 -- THE THEOREM: and the first such after the last number
 pub next-first : (t : Table) → length (t .places) ≡ placeCount → FirstFrom (t .places) (after (t .last)) (nextNumber t)
 unfolding nextNumber
-next-first t c = first 33 (after (t .last)) (t .places) (unfold nextNumber in next-unused t c)
+next-first t c = first 33 _ (t .places) (unfold nextNumber in next-unused t c)

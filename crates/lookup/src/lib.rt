@@ -1,1 +1,0 @@
-// Finding a record or an entry by its number, and the small updates of a table.
