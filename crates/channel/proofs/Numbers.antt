@@ -10,7 +10,7 @@ use lib.Dec.{ltb, eqb}
 use native.Mathlib.Omega.{arith}
 use native.Mathlib.Nat.{mod-lt}
 use borrow.Author.Tests.{eqb-true, ne-eqb, ltb-false, lt-ltb, le-ltb}
-use Rattle.laws.proofs.Tests.{by-test}
+use Rattle.laws.proofs.Tests.{by-test, shut}
 use Rattle.channel.specs.State.{placeCount, numbersInAll, numberOf, Place, vacant, holds, Table, isUsed}
 use Rattle.channel.specs.Decide.{after, freeFrom, nextNumber}
 
@@ -19,7 +19,7 @@ count true = 1
 count false = 0
 
 -- how far m lies past n, round the circle
-abbrev past : ℕ → ℕ → ℕ
+abbrev pub past : ℕ → ℕ → ℕ
 past n m = (m + (numbersInAll - n)) % numbersInAll
 
 -- how many places hold one of the k numbers from n on
@@ -125,3 +125,24 @@ first (suc k) n ps u =
 pub next-first : (t : Table) → length (t .places) ≡ placeCount → FirstFrom (t .places) (after (t .last)) (nextNumber t)
 unfolding nextNumber
 next-first t c = first 33 _ (t .places) (unfold nextNumber in next-unused t c)
+
+-- WHAT A SEARCH FOR IT NEEDS: a used number goes on, a free one is it, and each step is one nearer
+
+pub first-go : (ps : List Place) (n m : ℕ) → FirstFrom ps n m → isUsed n ps ≡ true → FirstFrom ps (after n) m
+first-go ps n m (here u) e = shut _ u e
+first-go ps n m (later u f) e = f
+
+pub first-stop : (ps : List Place) (n m : ℕ) → FirstFrom ps n m → isUsed n ps ≡ false → n ≡ m
+first-stop ps n m (here u) e = refl
+first-stop ps n m (later u f) e = shut _ e u
+
+pub first-free : (ps : List Place) (n m : ℕ) → FirstFrom ps n m → isUsed m ps ≡ false
+first-free ps n m (here u) = u
+first-free ps n m (later u f) = first-free ps (after n) m f
+
+pub first-small : (ps : List Place) (n m : ℕ) → n < numbersInAll → FirstFrom ps n m → m < numbersInAll
+first-small ps n m h (here u) = h
+first-small ps n m h (later u f) = first-small ps (after n) m (mod-lt (n + 1) (omega arith)) f
+
+pub nearer : (n m : ℕ) → n < numbersInAll → m < numbersInAll → (n ≡ m → ⊥) → past (after n) m < past n m
+nearer n m h l d = omega arith

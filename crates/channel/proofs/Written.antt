@@ -39,7 +39,7 @@ unused-written (holds c ∷ ps) =
     let d : (wordOf ps * 2 + 1) / 2 ≡ wordOf ps = omega arith in
     rw (eq-eqb ((wordOf ps * 2 + 1) % 2) 1 (omega arith), d) (unused-written ps)
 
-length-pending : (es : List Entry) → length (pendingOf es) ≡ length es
+pub length-pending : (es : List Entry) → length (pendingOf es) ≡ length es
 unfolding pendingOf
 length-pending [] = refl
 length-pending (e ∷ es) = ap suc (length-pending es)

@@ -2,3 +2,5 @@ pub mod Tests
 pub mod Clauses
 pub mod Lists
 pub mod Bits
+pub mod Marks
+pub mod Lowest
