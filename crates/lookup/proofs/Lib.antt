@@ -1,0 +1,6 @@
+pub mod Walk
+pub mod Limits
+pub mod Bridge
+pub mod Decided
+pub mod Branch
+pub mod Payload
