@@ -1,0 +1,2 @@
+pub mod LowestFree
+pub mod Opens
