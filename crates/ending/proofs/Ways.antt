@@ -1,0 +1,117 @@
+-- EOF and CLOSE over the code's state: a law for each way out, over either message.
+-- Assumes nothing.
+use Prim.Native.Nat.{ℕ, _+_, _≤_, _<_}
+use mathlib.Core.Path.{_≡_, refl, sym, ap, ap₂, _∙_}
+use mathlib.Core.Bool.{Bool, true, false}
+use mathlib.Core.List.{List, [], _∷_}
+use lib.ListN.{length}
+use native.Mathlib.Omega.{arith}
+use Rattle.octets.specs.Buf.{write}
+use Rattle.octets.proofs.Laws.{write-eq}
+use Rattle.channel.specs.declared.Record.{Record}
+use Rattle.channel.specs.declared.Refusal.{Refusal}
+use Rattle.channel.specs.declared.Refusal.the-variants as Refusal
+use Rattle.channel.specs.Wire.{frame, frames}
+use Rattle.channel.specs.State.{Table, numberOf, peerOf, nowhere, look, anyEntry}
+use Rattle.channel.specs.Call.{Call, act, done, gave}
+use Rattle.channel.specs.Change.{altered, removed}
+use Rattle.channel.specs.Decide.{Decision, quiet, staging, passing, serves, eofOn, closeOn, decide}
+use Rattle.channel.specs.Decide as I
+use Rattle.channel.specs.Step.{apply, step}
+use Rattle.channel.specs.Raw.{Raw, placesOf, entriesOf, meaning}
+use Rattle.channel.specs.Sound.{isSound}
+use Rattle.channel.specs.Called.{Typed, Outcome, called, outcome}
+use Rattle.channel.specs.Answers.{refusal}
+use Rattle.channel.specs.Answers as A
+use Rattle.lookup.specs.Held.{HeldAt, recordAt}
+use Rattle.lookup.specs.Update.{recordSet, stagedMore}
+use Rattle.lookup.proofs.Bridge.{behind}
+use Rattle.lookup.proofs.Decided.{if-true, if-false, serves-is, none-passes, held-fails, held-passes, held-has, by-act}
+use Rattle.lookup.proofs.Branch as B
+use Rattle.frames.proofs.Packets.{frames-one, length-eof, length-close}
+use Rattle.ending.specs.declared.Ending.{Ending}
+use Rattle.ending.specs.declared.Ending.the-variants.{Eof, Close}
+use Rattle.ending.specs.Ends.{callOf, messageOf, marks, leaves, Stops, unconfirmed, full}
+
+-- THE DECISION
+
+abbrev endOn : Ending → Table → Record → Decision
+endOn Eof t c = eofOn t c
+endOn Close t c = closeOn t c
+
+-- the definition's table after the message
+abbrev left : Ending → Table → Record → Table
+left Eof t c = t
+left Close t c = removed t c
+
+decided : (e : Ending) (t : Table) (n : ℕ) → decide t (callOf e n) ≡ passing serves (look n (t .places)) (endOn e t)
+unfolding I.decide
+decided Eof t n = refl
+decided Close t n = refl
+
+marks-on : (e : Ending) (t : Table) (c : Record) → anyEntry (numberOf c) (t .entries) ≡ true → endOn e t c ≡ quiet done (altered t c (marks e c))
+unfolding I.eofOn I.closeOn
+marks-on Eof t c h = if-true (anyEntry (numberOf c) (t .entries)) _ _ h
+marks-on Close t c h = if-true (anyEntry (numberOf c) (t .entries)) _ _ h
+
+sends-on : (e : Ending) (t : Table) (c : Record) → anyEntry (numberOf c) (t .entries) ≡ false → endOn e t c ≡ staging done (left e t c) (messageOf e (peerOf c) ∷ [])
+unfolding I.eofOn I.closeOn
+sends-on Eof t c h = if-false (anyEntry (numberOf c) (t .entries)) _ _ h
+sends-on Close t c h = if-false (anyEntry (numberOf c) (t .entries)) _ _ h
+
+-- THE MESSAGE
+
+nine : (e : Ending) (peer : ℕ) → length (frame (messageOf e peer)) ≡ 9
+nine Eof peer = length-eof peer
+nine Close peer = length-close peer
+
+-- THE WAYS OUT
+
+module _ (r : Raw) (ty : Typed r) (sd : isSound r ≡ true) (e : Ending) (n : ℕ) where
+  pub unknown : look n (placesOf (r .held .used) (r .held .records)) ≡ nowhere → called r (act (callOf e n)) ≡ record { answer = refusal Refusal.Unknown; state = r }
+  unfolding A.refusal A.refusalNumber
+  unknown h = B.refusing r ty sd (act (callOf e n)) false 2 (by-act r (callOf e n) (decided e (meaning r .table) n ∙ none-passes r n h serves (endOn e (meaning r .table))))
+
+  module _ (i : ℕ) (h : HeldAt (r .held) n i) (waits : Bool) (w : waits ≡ anyEntry n (entriesOf (r .held .«entry_count») (r .held .entries) [])) where
+    on-record : recordAt (r .held) i .confirmed ≡ true → decide (meaning r .table) (callOf e n) ≡ endOn e (meaning r .table) (recordAt (r .held) i)
+    on-record f = decided e (meaning r .table) n ∙ held-passes r n i h serves (endOn e (meaning r .table)) (serves-is (recordAt (r .held) i) ∙ f)
+
+    on-sending : recordAt (r .held) i .confirmed ≡ true → waits ≡ false
+        → decide (meaning r .table) (callOf e n) ≡ staging done (left e (meaning r .table) (recordAt (r .held) i)) (messageOf e (peerOf (recordAt (r .held) i)) ∷ [])
+    on-sending f v = on-record f ∙ sends-on e (meaning r .table) (recordAt (r .held) i) (held-has r n i h ∙ sym w ∙ v)
+
+    pub stopped : {k : Refusal} → Stops (recordAt (r .held) i .confirmed) waits (r .held .«staged_used») (length (r .staged)) k
+        → called r (act (callOf e n)) ≡ record { answer = refusal k; state = r }
+    unfolding A.refusal A.refusalNumber
+    stopped (unconfirmed f) =
+        B.refusing r ty sd (act (callOf e n)) false 3
+        (by-act r (callOf e n) (decided e (meaning r .table) n ∙ held-fails r n i h serves (endOn e (meaning r .table)) (serves-is (recordAt (r .held) i) ∙ f)))
+    stopped (full f v l) =
+        let m = messageOf e (peerOf (recordAt (r .held) i)) in
+        let size : length (frames (m ∷ [])) ≡ 9 = ap length (frames-one m) ∙ nine e (peerOf (recordAt (r .held) i)) in
+        B.full r ty sd (act (callOf e n)) false done (left e (meaning r .table) (recordAt (r .held) i)) (m ∷ []) (by-act r (callOf e n) (on-sending f v)) (omega arith)
+
+    pub marked : recordAt (r .held) i .confirmed ≡ true → waits ≡ true
+        → called r (act (callOf e n)) ≡ outcome (gave done) (recordSet (r .held) i (marks e (recordAt (r .held) i))) (r .queue) (r .staged) (r .sent)
+    marked f v =
+        let c = recordAt (r .held) i in
+        B.recorded-is r ty sd (act (callOf e n)) false done n i h (marks e c)
+        (by-act r (callOf e n) (on-record f ∙ marks-on e (meaning r .table) c (held-has r n i h ∙ sym w ∙ v)))
+
+    pub sent : recordAt (r .held) i .confirmed ≡ true → waits ≡ false → r .held .«staged_used» + 9 ≤ length (r .staged)
+        → called r (act (callOf e n))
+        ≡ outcome (gave done) (stagedMore (leaves e (r .held) i) 9) (r .queue) (write (r .held .«staged_used») (frame (messageOf e (peerOf (recordAt (r .held) i)))) (r .staged)) (r .sent)
+    sent f v l =
+        let p = peerOf (recordAt (r .held) i) in
+        let m = messageOf e p in
+        let at = r .held .«staged_used» in
+        let one : length (frame m) ≡ 9 = nine e p in
+        let size : length (frames (m ∷ [])) ≡ 9 = ap length (frames-one m) ∙ one in
+        put-out e (act (callOf e n)) (m ∷ []) (by-act r (callOf e n) (on-sending f v)) (omega arith)
+        ∙ ap₂ {C = Outcome} (λ x y. outcome (gave done) (stagedMore (leaves e (r .held) i) x) (r .queue) y (r .sent)) size (ap (λ bs. behind at bs (r .staged)) (frames-one m) ∙ sym (write-eq at (frame m) (r .staged) (omega arith)))
+      where
+        put-out : (a : Ending) (k : Call) (ms : List (List ℕ)) → step (meaning r) k ≡ apply (meaning r) false (staging done (left a (meaning r .table) (recordAt (r .held) i)) ms)
+            → r .held .«staged_used» + length (frames ms) ≤ length (r .staged)
+            → called r k ≡ outcome (gave done) (stagedMore (leaves a (r .held) i) (length (frames ms))) (r .queue) (behind (r .held .«staged_used») (frames ms) (r .staged)) (r .sent)
+        put-out Eof k ms d g = B.put-is r ty sd k false done ms d g
+        put-out Close k ms d g = B.freed-put-is r ty sd k false done n i h ms d g
