@@ -1,0 +1,125 @@
+-- What carrying out a plan leaves, over the queue and the one buffer that frames go into.
+-- Assumes nothing.
+use Prim.Native.Nat.{ℕ, zero, suc, _+_, _-_, _≤_, _<_}
+use mathlib.Core.Path.{_≡_}
+use mathlib.Core.Bool.{Bool, true, false}
+use mathlib.Core.List.{List}
+use lib.ListN.{length, take, drop}
+use Rattle.octets.specs.Buf.{write}
+use Rattle.channel.specs.declared.Kind.{Kind}
+use Rattle.channel.specs.declared.Table as D
+use Rattle.channel.specs.declared.Sent.{Sent}
+use Rattle.channel.specs.declared.Sent.the-variants.{Framed, Refused}
+use Rattle.channel.specs.State.{mostEntries, mostBytes, peerOf}
+use Rattle.channel.specs.Wire.{frames, packets}
+use Rattle.channel.specs.Call.{Route, Load, put, direct}
+use Rattle.channel.specs.Change.{withPeerWindow}
+use Rattle.channel.specs.Step.{goesStraight}
+use Rattle.channel.specs.Raw.{Raw, meaning}
+use Rattle.channel.specs.Sound.{isSound}
+use Rattle.channel.specs.Called.{Typed, Outcome, called, lent}
+use Rattle.channel.specs.Answers as A
+use Rattle.lookup.specs.Held.{recordAt}
+use Rattle.lookup.specs.Update.{counted, recordSet, entryPushed}
+use Rattle.sending.specs.declared.Plan.{Plan}
+use Rattle.sending.specs.declared.Plan.the-variants.{Refuse, Nothing, Queue, Frame}
+use Rattle.sending.specs.Planned.{outUsed}
+
+-- the answer, the table and the two buffers
+pub record After : Type 0 where
+  pub answer : Sent
+  pub table : D.Table
+  pub queue : List ℕ
+  pub out : List ℕ
+
+-- THE TABLE
+
+-- that buffer's used count as given
+abbrev pub outSet : Bool → D.Table → ℕ → D.Table
+outSet true t n = counted t (t .«staged_used») n
+outSet false t n = counted t n (t .«sent_used»)
+
+-- one entry more, of that many bytes
+abbrev pub pushed : D.Table → ℕ → Kind → ℕ → D.Table
+pushed t n kind left = entryPushed t (record { number = record { 0 = n }; kind = kind; left = left })
+
+-- the same for a remainder: none for no bytes
+unfoldable pub restPushed : D.Table → ℕ → Kind → ℕ → D.Table
+restPushed t n kind zero = t
+restPushed t n kind (suc k) = pushed t n kind (suc k)
+
+-- THE PLANS, over the record at place i and the bytes bs
+
+-- the frames of the first m bytes
+abbrev pub framesOf : D.Table → ℕ → Kind → ℕ → List ℕ → List ℕ
+framesOf t i kind m bs = frames (packets kind (peerOf (recordAt t i)) (recordAt t i .«recipient_maximum_packet_size») (take m bs))
+
+-- the window charged, the rest pushed, the frames counted
+unfoldable pub framedTable : Bool → D.Table → ℕ → ℕ → Kind → ℕ → List ℕ → D.Table
+framedTable b t i n kind m bs =
+    outSet b
+    (recordSet (restPushed t n kind (length (drop m bs))) i (withPeerWindow (recordAt t i) (recordAt t i .«recipient_window_size» - m)))
+    (outUsed b t + length (framesOf t i kind m bs))
+
+unfoldable pub carried : Plan → Bool → D.Table → ℕ → ℕ → Kind → List ℕ → List ℕ → List ℕ → After
+carried (Refuse k) b t i n kind bs queue out = record { answer = Refused k; table = t; queue = queue; out = out }
+carried Nothing b t i n kind bs queue out = record { answer = Framed 0; table = t; queue = queue; out = out }
+carried Queue b t i n kind bs queue out =
+    record { answer = Framed 0; table = pushed t n kind (length bs); queue = write (t .«queue_used») bs queue; out = out }
+carried (Frame m) b t i n kind bs queue out =
+    record {
+      answer = Framed m;
+      table = framedTable b t i n kind m bs;
+      queue = write (t .«queue_used») (drop m bs) queue;
+      out = write (outUsed b t) (framesOf t i kind m bs) out;
+    }
+
+-- WHAT IT ASKS
+
+-- an entry and its bytes in the queue
+pub record Enters (t : D.Table) (queue n : ℕ) : Type 0 where
+  pub entry : t .«entry_count» < mostEntries
+  pub bytes : t .«queue_used» + n ≤ queue
+
+pub record Frames (b : Bool) (t : D.Table) (i : ℕ) (kind : Kind) (m : ℕ) (bs : List ℕ) (queue out : ℕ) : Type 0 where
+  pub limit : 0 < recordAt t i .«recipient_maximum_packet_size»
+  pub part : m ≤ length bs
+  pub window : m ≤ recordAt t i .«recipient_window_size»
+  pub fits : outUsed b t + length (framesOf t i kind m bs) ≤ out
+  pub rest : 0 < length bs - m → Enters t queue (length bs - m)
+
+abbrev pub Able : Plan → Bool → D.Table → ℕ → Kind → List ℕ → ℕ → ℕ → Type 0
+Able (Refuse k) b t i kind bs queue out = Unit {0}
+Able Nothing b t i kind bs queue out = Unit {0}
+Able Queue b t i kind bs queue out = Enters t queue (length bs)
+Able (Frame m) b t i kind bs queue out = Frames b t i kind m bs queue out
+
+-- THE ROUTE
+
+-- the state whose buffer for frames is `out`: sent where they go straight, else staged. The call leaves the other one alone
+abbrev pub lentOut : Bool → D.Table → List ℕ → List ℕ → List ℕ → Raw
+lentOut true t queue out other = lent t queue other out
+lentOut false t queue out other = lent t queue out other
+
+abbrev pub outcomeOf : Bool → After → List ℕ → Outcome
+outcomeOf b a other = record { answer = A.sent (a .answer); state = lentOut b (a .table) (a .queue) (a .out) other }
+
+-- the bounds of a sound state's two buffers
+pub record Ready (b : Bool) (t : D.Table) (queue out : ℕ) : Type 0 where
+  pub queueLong : queue ≤ mostBytes
+  pub outLong : out ≤ mostBytes
+  pub queueUsed : t .«queue_used» ≤ queue
+  pub outUsed : outUsed b t ≤ out
+  pub few : t .«entry_count» ≤ mostEntries
+
+-- the state is sound, and frames of this route go into that buffer
+pub record Lends (b rekey : Bool) (route : Route) (r : Raw) : Type 0 where
+  pub typed : Typed r
+  pub sound : isSound r ≡ true
+  pub same : route .rekey ≡ rekey
+  pub way : rekey ≡ false → goesStraight (direct route) (meaning r) ≡ b
+
+-- the call is the definition's, whatever the other buffer holds
+unfoldable pub Sending : Bool → Bool → D.Table → List ℕ → List ℕ → Load → After → Type 0
+Sending b rekey t queue out load a =
+    (other : List ℕ) (route : Route) → Lends b rekey route (lentOut b t queue out other) → outcomeOf b a other ≡ called (lentOut b t queue out other) (put route load)
