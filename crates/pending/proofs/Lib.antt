@@ -1,0 +1,6 @@
+pub mod KeepLaws
+pub mod FlushLaws
+pub mod Definition
+pub mod PlanLaws
+pub mod CallLaws
+pub mod AllLaws

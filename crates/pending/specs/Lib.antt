@@ -1,0 +1,4 @@
+pub mod Keep
+pub mod Flush
+pub mod Plan
+pub mod All

@@ -1,0 +1,112 @@
+-- The plan of one channel's flush, in the parts that the code carries out: the answer, the record after, and the marks' messages.
+-- Assumes nothing.
+use Prim.Native.Nat.{ℕ, _+_, _-_, _*_, _^_, _≤_, _<_}
+use mathlib.Core.Path.{_≡_}
+use mathlib.Core.Bool.{Bool, true, false, _&&_, not, cond}
+use mathlib.Core.List.{List, [], _∷_, _++_}
+use lib.ListN.{length, take, set}
+use lib.Dec.{eqb}
+use Rattle.channel.specs.declared.Record.{Record}
+use Rattle.channel.specs.declared.Table as D
+use Rattle.channel.specs.Wire.{frames, eofMessage, closeMessage}
+use Rattle.channel.specs.State.{placeCount, mostBytes, Entry, Table, numberOf, peerOf}
+use Rattle.channel.specs.Call.{Call, Result, incomplete, complete}
+use Rattle.channel.specs.Change.{withPeerWindow, withMarks, withEntries, altered}
+use Rattle.channel.specs.Decide.{Plan, none, Flushed, flushed, anyByte, unmarked}
+use Rattle.channel.specs.Raw.{Raw, entriesOf, zeroRecord}
+use Rattle.channel.specs.Sound.{isSound}
+use Rattle.channel.specs.Called.{Typed, Outcome, called}
+use Rattle.laws.specs.Bits.{bit}
+use Rattle.octets.specs.Buf.{write}
+use Rattle.lookup.specs.Update.{placed, stagedMore, sentMore}
+use Rattle.pending.specs.declared.Size.{Size}
+use Rattle.pending.specs.declared.Planned.{Planned}
+use Rattle.pending.specs.declared.Planned.the-variants.{Limit, Frames}
+use Rattle.pending.specs.Keep.{Base, queueWith, tableWith}
+use Rattle.pending.specs.Flush.{sizeOf, stuckBy}
+
+-- the entries of a table over its queue, as `meaning` has them
+abbrev pub entriesIn : D.Table → List ℕ → List Entry
+entriesIn t q = entriesOf (t .«entry_count») (t .entries) (take (t .«queue_used») q)
+
+-- what a flush of the record does to them
+abbrev pub flushedIn : D.Table → List ℕ → Record → Flushed
+flushedIn t q c = flushed c (c .«recipient_window_size») (entriesIn t q)
+
+-- the answer by the bytes framed and whether none is left
+unfoldable pub resultOf : Record → ℕ → Bool → Result
+resultOf c wrote all = cond all (complete wrote (c .«pending_eof») (c .«pending_close»)) (incomplete wrote)
+
+-- EOF and CLOSE, where their marks are handed over
+unfoldable pub marked : ℕ → Bool → Bool → List (List ℕ)
+marked peer eof close = cond eof (eofMessage peer ∷ []) [] ++ cond close (closeMessage peer ∷ []) []
+
+abbrev pub controlOf : Record → Bool → List (List ℕ)
+controlOf c all = marked (peerOf c) (all && c .«pending_eof») (all && c .«pending_close»)
+
+-- the record with the window after, and without its marks where none is left
+unfoldable pub chargedBy : Record → ℕ → Bool → Record
+chargedBy c window all = withMarks (withPeerWindow c window) (c .«pending_eof» && not all) (c .«pending_close» && not all)
+
+-- its place after: freed and zero where CLOSE is handed over
+unfoldable pub wordBy : ℕ → ℕ → Bool → ℕ
+wordBy used i gone = cond gone (used - 2 ^ i) used
+
+unfoldable pub recordBy : Record → ℕ → Bool → Record
+recordBy c window all = cond (all && c .«pending_close») zeroRecord (chargedBy c window all)
+
+abbrev pub settledBy : D.Table → ℕ → Record → ℕ → Bool → D.Table
+settledBy t i c window all = placed t (t .last) (wordBy (t .used) i (all && c .«pending_close»)) (set (t .records) i (recordBy c window all))
+
+-- the whole plan
+unfoldable pub planOf : Table → Record → Flushed → Plan
+planOf t c f =
+    record {
+      answer = resultOf c (f .wrote) (f .all);
+      table = withEntries (cond (f .all) (unmarked t c (f .window)) (altered t c (withPeerWindow c (f .window)))) (f .kept);
+      payload = f .out;
+      control = controlOf c (f .all);
+      queues = none;
+    }
+
+-- what the size pass answers: Limit, or the sizes of the flush
+unfoldable pub PlannedBy : Record → List Entry → Planned → Type 0
+PlannedBy c es Limit = eqb (c .«recipient_maximum_packet_size») 0 && anyByte (numberOf c) es ≡ true
+PlannedBy c es (Frames s) = (eqb (c .«recipient_maximum_packet_size») 0 && anyByte (numberOf c) es ≡ false) × (s ≡ sizeOf (flushed c (c .«recipient_window_size») es)) × (s .size ≤ 18 * mostBytes)
+
+-- the sizes of the flush of the record at place i were found, and its limit is no obstacle
+pub record Ready (t : D.Table) (q : List ℕ) (i : ℕ) (c : Record) (s : Size) : Type 0 where
+  pub base : Base (t .entries) (t .«entry_count») q (t .«queue_used»)
+  pub place : i < placeCount
+  pub used : bit (t .used) i ≡ true
+  pub free : stuckBy c (take (t .«entry_count») (t .entries)) ≡ false
+  pub sizes : s ≡ sizeOf (flushedIn t q c)
+
+-- the entries and the record's place after the flush
+abbrev pub afterFlush : D.Table → List ℕ → ℕ → Record → D.Table
+afterFlush t q i c = let f = flushedIn t q c in settledBy (tableWith (f .kept) t) i c (f .window) (f .all)
+
+-- the bytes of the frames, and of the marks' messages
+abbrev pub outSize : D.Table → List ℕ → Record → ℕ
+outSize t q c = length (frames (flushedIn t q c .out))
+
+abbrev pub controlSize : D.Table → List ℕ → Record → ℕ
+controlSize t q c = length (frames (controlOf c (flushedIn t q c .all)))
+
+-- all of it carried out, into staged, or straight into sent
+pub record Staged (t : D.Table) (q st : List ℕ) (i : ℕ) (c : Record) (x : D.Table) (q′ st′ : List ℕ) : Type 0 where
+  pub table : x ≡ stagedMore (afterFlush t q i c) (outSize t q c + controlSize t q c)
+  pub queue : q′ ≡ queueWith (flushedIn t q c .kept) (t .«queue_used») q
+  pub staged : st′ ≡ write (t .«staged_used» + outSize t q c) (frames (controlOf c (flushedIn t q c .all))) (write (t .«staged_used») (frames (flushedIn t q c .out)) st)
+
+pub record Straight (t : D.Table) (q st se : List ℕ) (i : ℕ) (c : Record) (x : D.Table) (q′ st′ se′ : List ℕ) : Type 0 where
+  pub table : x ≡ stagedMore (sentMore (afterFlush t q i c) (outSize t q c)) (controlSize t q c)
+  pub queue : q′ ≡ queueWith (flushedIn t q c .kept) (t .«queue_used») q
+  pub staged : st′ ≡ write (t .«staged_used») (frames (controlOf c (flushedIn t q c .all))) st
+  pub sent : se′ ≡ write (t .«sent_used») (frames (flushedIn t q c .out)) se
+
+-- what a flush that was tested before tells its caller: the outcome, and that the state stays sound
+pub record Goes (r : Raw) (k : Call) (o : Outcome) : Type 0 where
+  pub is : o ≡ called r k
+  pub typed : Typed r
+  pub sound : isSound (o .state) ≡ true
