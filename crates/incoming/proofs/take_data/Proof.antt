@@ -1,0 +1,26 @@
+-- `incoming::take_data` meets its contract: each return cites the law for what was heard (`Taking`).
+-- Assumes nothing.
+use borrow.Author.Needs.{needs}
+use Rattle.incoming.specs.Takes as T
+use Rattle.incoming.proofs.Taking as K
+use Rattle.incoming.proofs.take_data.Statement.{statement}
+use Rattle.incoming.proofs.take_data.Tie as tie
+
+hears-requires : tie.Need-hears-requires
+hears-requires c κs = search needs
+
+enum-told : tie.Need-enum-told
+enum-told c = search needs
+
+enum-known-heard : tie.Need-enum-known-heard
+enum-known-heard c = search needs
+
+returns : tie.Need-returns
+unfolding T.Hears
+returns c = K.took-data (c .before .before .before .args .t) (c .before .before .before .args .m) (rw (c .enum-told .given .1) at (c .before .before .hears .ensures))
+
+returns-2 : tie.Need-returns-2
+returns-2 c = K.not-data (c .before .before .before .before .args .t) (c .before .before .before .before .args .m) _ (rw (c .before .heard .given .1) at (c .before .before .before .hears .ensures))
+
+pub take-data-spec : {M : Type 1} → statement M
+take-data-spec = tie.close (tie.spec hears-requires enum-told enum-known-heard returns returns-2)
