@@ -1,13 +1,11 @@
 -- What taking a message in comes to, from what the code found: one law for each return.
 -- Assumes nothing.
 use Prim.Native.Nat.{ℕ, _+_, _≤_, _<_}
-use mathlib.Core.Path.{_≡_, refl, sym, ap, _∙_}
-use mathlib.Core.Bool.{Bool, true, false}
+use mathlib.Core.Path.{_≡_, sym, ap, _∙_}
+use mathlib.Core.Bool.{true, false}
 use mathlib.Core.List.{List}
-use lib.Dec.{leb}
 use borrow.Author.Tests.{le-leb, lt-leb}
 use Rattle.channel.specs.declared.Table as D
-use Rattle.channel.specs.declared.Record.{Record}
 use Rattle.channel.specs.declared.Message as M
 use Rattle.channel.specs.declared.Message.the-variants.{OpenConfirmation, OpenFailure, WindowAdjust, Data, Eof}
 use Rattle.channel.specs.declared.Confirmation.{Confirmation}
@@ -20,7 +18,7 @@ use Rattle.channel.specs.declared.Refusal.the-variants.{Unknown, Unconfirmed, C
 use Rattle.channel.specs.declared.Taken.the-variants.{Took, Refused}
 use Rattle.channel.specs.State.{mostWindow, look, nowhere}
 use Rattle.channel.specs.Change.{confirm, withPeerWindow}
-use Rattle.channel.specs.Decide.{Decision, refuse, quiet, serves, takenIn}
+use Rattle.channel.specs.Decide.{refuse, serves, takenIn}
 use Rattle.channel.specs.Decide as G
 use Rattle.channel.specs.Step.{apply}
 use Rattle.channel.specs.Raw.{placesOf, meaning}
