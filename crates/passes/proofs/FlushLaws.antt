@@ -14,7 +14,7 @@ use Rattle.laws.proofs.Tests.{by-test, shut}
 use Rattle.laws.proofs.Lists.{next}
 use Rattle.octets.specs.Buf.{write}
 use Rattle.octets.proofs.Laws.{write-nil, write-append, length-write}
-use Rattle.frames.proofs.Packets.{runSize, packets-nil, heads-le}
+use Rattle.frames.proofs.Packets.{packets-nil, heads-le}
 use Rattle.frames.proofs.Packets as P
 use Rattle.channel.specs.declared.Kind.{Kind}
 use Rattle.channel.specs.declared.Entry as E
@@ -23,7 +23,7 @@ use Rattle.channel.specs.Wire as W
 use Rattle.channel.specs.Wire.{frames, packets}
 use Rattle.channel.specs.State.{Entry, numberOf, peerOf}
 use Rattle.channel.specs.Decide as D
-use Rattle.channel.specs.Decide.{flushed, keeping, sending}
+use Rattle.channel.specs.Decide.{flushed}
 use Rattle.channel.specs.Raw.{entriesOf}
 use Rattle.channel.specs.Sound.{sumLeft}
 use Rattle.channel.specs.Sound as C

@@ -103,6 +103,28 @@ fn clear_from(entries: [Entry; 64], k: usize, count: usize) -> [Entry; 64]
     es
 }
 
+// What is left when k entries and the bytes before `to` stay: the entries and bytes in use behind them are zero.
+fn close_up(
+    entries: [Entry; 64],
+    k: usize,
+    count: usize,
+    queue: &mut [u8],
+    to: usize,
+    used: usize,
+) -> Kept
+    requires { ⌜ (k ≤ count) × (count ≤ mostEntries) × (length entries ≡ mostEntries) × (to ≤ used) × (used ≤ length (now queue)) ⌝ }
+    ensures { λ r. ⌜ now (queue .exit) ≡ write to (replicate (used - to) 0) (now (queue .entry)) ⌝ }
+    ensures { λ r. ⌜ r ≡ record { entries = sets entries k (replicate (count - k) zeroEntry); count = k; used = to } ⌝ }
+{
+    put_zeros(queue, to, used - to);
+    let out = clear_from(entries, k, count);
+    Kept {
+        entries: out,
+        count: k,
+        used: to,
+    }
+}
+
 // The bytes of channel n leave the queue, in entry order, as many as the window holds; one pass over the queue.
 pub fn compact(
     entries: [Entry; 64],
@@ -134,8 +156,7 @@ pub fn compact(
         }
         let gone = cut_of(e, n, live, w);
         let keep = left - gone;
-        let from = off + gone;
-        move_down(queue, to, from - to, keep);
+        move_down(queue, to, off + gone - to, keep);
         es[k] = with_left(e, keep);
         live = still(e, n, live);
         k += 1;
@@ -143,13 +164,7 @@ pub fn compact(
         off = off + left;
         i += 1;
     }
-    put_zeros(queue, to, used - to);
-    let out = clear_from(es, k, count);
-    Kept {
-        entries: out,
-        count: k,
-        used: to,
-    }
+    close_up(es, k, count, queue, to, used)
 }
 
 // THE FRAMES

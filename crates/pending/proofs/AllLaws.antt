@@ -26,7 +26,7 @@ use Rattle.channel.specs.Raw.{Raw, meaning, written, pendingOf}
 use Rattle.channel.specs.Raw as R
 use Rattle.channel.specs.Sound.{isSound, isMarked}
 use Rattle.channel.specs.Called.{Typed, Outcome, called}
-use Rattle.channel.proofs.Lookup.{Apart, For, look-number, look-unused, look-nowhere, look-other}
+use Rattle.channel.proofs.Lookup.{Apart, look-number, look-unused, look-nowhere, look-other}
 use Rattle.channel.proofs.Lookup as L
 use Rattle.channel.proofs.Entries.{own, some, any-own, flushed-skip}
 use Rattle.channel.proofs.Entries as N

@@ -34,13 +34,13 @@ use Rattle.lookup.proofs.Limits.{limits}
 use Rattle.lookup.proofs.Decided.{by-load, none-known, held-known, straight-is}
 use Rattle.lookup.proofs.Bridge.{Put, put-none, put-as, Places, changed-places, freed-places}
 use Rattle.lookup.proofs.Branch.{HasRoom, sent, staged, refusing, lacking, gone}
+use Rattle.passes.specs.declared.Size.{Size}
 use Rattle.passes.specs.Keep.{queueWith, entriesWith, tableWith}
 use Rattle.passes.specs.Keep as Keep
-use Rattle.passes.specs.declared.Size.{Size}
 use Rattle.passes.specs.Flush.{sizeOf}
+use Rattle.passes.specs.Pass.{entriesIn, flushedIn}
 use Rattle.passes.proofs.Definition.{window-flushed}
 use Rattle.passes.proofs.Rows.{kept-rows}
-use Rattle.passes.specs.Pass.{entriesIn, flushedIn}
 use Rattle.pending.specs.Plan.{resultOf, controlOf, chargedBy, settledBy, planOf, afterFlush, outSize, controlSize, Goes}
 use Rattle.pending.proofs.PlanLaws.{flush-limit, flush-goes, closed-place, open-place, settled-closed, settled-open, plan-last}
 

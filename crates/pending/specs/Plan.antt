@@ -1,19 +1,18 @@
 -- The plan of one channel's flush, in the parts that the code carries out: the answer, the record after, and the marks' messages.
 -- Assumes nothing.
-use Prim.Native.Nat.{ℕ, _+_, _-_, _*_, _^_, _≤_, _<_}
+use Prim.Native.Nat.{ℕ, _+_, _-_, _^_, _<_}
 use mathlib.Core.Path.{_≡_}
 use mathlib.Core.Bool.{Bool, true, false, _&&_, not, cond}
 use mathlib.Core.List.{List, [], _∷_, _++_}
 use lib.ListN.{length, take, set}
-use lib.Dec.{eqb}
 use Rattle.channel.specs.declared.Record.{Record}
 use Rattle.channel.specs.declared.Table as D
 use Rattle.channel.specs.Wire.{frames, eofMessage, closeMessage}
-use Rattle.channel.specs.State.{placeCount, mostBytes, Entry, Table, numberOf, peerOf}
+use Rattle.channel.specs.State.{placeCount, Table, peerOf}
 use Rattle.channel.specs.Call.{Call, Result, incomplete, complete}
 use Rattle.channel.specs.Change.{withPeerWindow, withMarks, withEntries, altered}
-use Rattle.channel.specs.Decide.{Plan, none, Flushed, flushed, anyByte, unmarked}
-use Rattle.channel.specs.Raw.{Raw, entriesOf, zeroRecord}
+use Rattle.channel.specs.Decide.{Plan, none, Flushed, unmarked}
+use Rattle.channel.specs.Raw.{Raw, zeroRecord}
 use Rattle.channel.specs.Sound.{isSound}
 use Rattle.channel.specs.Called.{Typed, Outcome, called}
 use Rattle.laws.specs.Bits.{bit}

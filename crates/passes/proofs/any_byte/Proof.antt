@@ -1,4 +1,4 @@
--- `pending::any_byte` meets its contract: what is ahead of place i has a byte just where the whole has one.
+-- `passes::any_byte` meets its contract: what is ahead of place i has a byte just where the whole has one.
 -- Assumes nothing.
 use Prim.Native.Nat.{_≤_, _-_}
 use mathlib.Core.Path.{_≡_, sym, _∙_}

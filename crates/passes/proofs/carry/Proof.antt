@@ -1,4 +1,4 @@
--- `pending::carry` meets its contract: the passes flush the record with a positive limit, which flushes alike (`framed-by`, `kept-by`).
+-- `passes::carry` meets its contract: the passes flush the record with a positive limit, which flushes alike (`framed-by`, `kept-by`).
 -- Assumes nothing.
 use mathlib.Core.Path.{refl, ap, _∙_}
 use mathlib.Core.List.{List}

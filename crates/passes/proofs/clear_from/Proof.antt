@@ -1,4 +1,4 @@
--- `pending::clear_from` meets its contract: what is left to clear, cleared in the present array, is the whole.
+-- `passes::clear_from` meets its contract: what is left to clear, cleared in the present array, is the whole.
 -- Assumes nothing.
 use Prim.Native.Nat.{_≤_, _-_}
 use mathlib.Core.Path.{_≡_, refl, sym, _∙_}

@@ -1,4 +1,4 @@
--- `pending::compact` meets its contract. The invariant is `Going`; a turn is `goes-by` or `stays-by` of KeepLaws, and its end `end-queue` and `end-entries`.
+-- `passes::compact` meets its contract. The invariant is `Going`; a turn is `goes-by` or `stays-by` of KeepLaws, and its end `end-queue` and `end-entries`.
 -- Assumes nothing.
 use Prim.Native.Nat.{_+_, _≤_, _-_, _<_}
 use mathlib.Core.Path.{_≡_, refl, sym, _∙_, ap}
@@ -113,8 +113,8 @@ cut-of-requires c κs = search needs
 sub-keep : tie.Need-sub-keep Inv-loop μ-loop
 sub-keep c = cut-fits c
 
-add-from : tie.Need-add-from Inv-loop μ-loop
-add-from c = omega (arith, cut-fits c, summed (got c), base (got c .before .before) .fits)
+add-move-down : tie.Need-add-move-down Inv-loop μ-loop
+add-move-down c = omega (arith, cut-fits (c .before), summed (got (c .before)), base (got (c .before) .before .before) .fits)
 
 sub-move-down : tie.Need-sub-move-down Inv-loop μ-loop
 sub-move-down c = omega (arith, going (got (c .before) .before .before) .lower)
@@ -163,36 +163,27 @@ loop-again-2 c =
     stays-by (base l) (going l) (test l) (g .left-of .result) (t .cut-of .result) (g .left-of .result - t .cut-of .result) (c .before .with-left .result) _ (c .still .result)
     (stayed (t .before)) (left g) (t .cut-of .ensures) refl (c .before .with-left .ensures) (c .before .before .before .before .move-down .ensures) (c .still .ensures)
 
-sub-put-zeros : tie.Need-sub-put-zeros Inv-loop μ-loop
-sub-put-zeros c = omega (arith, end-below (c .before .before .before .before .pre) (c .before .before .loop .inv) (c .before .loop-test .left))
-
-put-zeros-requires : tie.Need-put-zeros-requires Inv-loop μ-loop
-put-zeros-requires c κs =
+close-up-requires : tie.Need-close-up-requires Inv-loop μ-loop
+close-up-requires c κs =
     let b = c .before .before .before .before .pre in
     let g = c .before .before .loop .inv in
-    omega (arith, end-below b g (c .before .loop-test .left), g .sameQ, b .fits)
-
-clear-from-requires : tie.Need-clear-from-requires Inv-loop μ-loop
-clear-from-requires c κs =
-    let e = c .before .before .before .before in
-    let b = e .before .before .before .pre in
-    let g = e .before .loop .inv in
-    (end-places b g (e .loop-test .left), b .few, g .sameE)
+    let h = c .before .loop-test .left in
+    (end-places b g h, b .few, g .sameE, end-below b g h, omega (arith, g .sameQ, b .fits))
 
 same-length : tie.Need-same-length Inv-loop μ-loop
 same-length c =
-    let g = c .before .before .before .before .before .before .loop .inv in
-    ap length (c .before .before .before .put-zeros .ensures) ∙ length-write _ _ _ ∙ g .sameQ
+    let g = c .before .before .before .before .before .loop .inv in
+    ap length (c .before .before .close-up .ensures .0) ∙ length-write _ _ _ ∙ g .sameQ
 
 returns : tie.Need-returns Inv-loop μ-loop
 unfolding keptWith
 returns c =
-    let e = c .before .before .before .before .before in
+    let e = c .before .before .before .before in
     let b = e .before .before .before .pre in
     let g = e .before .loop .inv in
     let h = e .loop-test .left in (
-      c .before .before .before .put-zeros .ensures ∙ end-queue b g h,
-      λ i. record { entries = (c .clear-from .ensures ∙ end-entries b g h) i; count = end-count b g h i; used = end-used b g h i },
+      c .before .before .close-up .ensures .0 ∙ end-queue b g h,
+      c .before .before .close-up .ensures .1 ∙ (λ i. record { entries = end-entries b g h i; count = end-count b g h i; used = end-used b g h i }),
     )
 
 pub compact-spec : {M : Type 1} → statement M
@@ -213,7 +204,7 @@ compact-spec =
     loop-again
     cut-of-requires
     sub-keep
-    add-from
+    add-move-down
     sub-move-down
     move-down-requires
     with-left-requires
@@ -226,8 +217,6 @@ compact-spec =
     add-i-2
     loop-less-2
     loop-again-2
-    sub-put-zeros
-    put-zeros-requires
-    clear-from-requires
+    close-up-requires
     same-length
     returns)

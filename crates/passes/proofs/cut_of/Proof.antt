@@ -1,4 +1,4 @@
--- `pending::cut_of` meets its contract, by its test.
+-- `passes::cut_of` meets its contract, by its test.
 -- Assumes nothing.
 use Rattle.passes.proofs.cut_of.Statement.{statement}
 use Rattle.passes.proofs.cut_of.Tie as tie

@@ -1,4 +1,4 @@
--- `pending::drop_entries` meets its contract: a window of the whole queue keeps nothing of the channel (`dropped-by`).
+-- `passes::drop_entries` meets its contract: a window of the whole queue keeps nothing of the channel (`dropped-by`).
 -- Assumes nothing.
 use mathlib.Core.Path.{ap, _∙_}
 use mathlib.Core.List.{List}

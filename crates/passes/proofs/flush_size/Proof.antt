@@ -1,4 +1,4 @@
--- `pending::flush_size` meets its contract. The invariant is `Sizing`; a turn is `size-go` or `size-stop` of FlushLaws, and `size-room` keeps the sums in range.
+-- `passes::flush_size` meets its contract. The invariant is `Sizing`; a turn is `size-go` or `size-stop` of FlushLaws, and `size-room` keeps the sums in range.
 -- Assumes nothing.
 use Prim.Native.Nat.{ℕ, _+_, _*_, _≤_, _-_, _<_}
 use mathlib.Core.Path.{sym, _∙_}

@@ -1,4 +1,4 @@
--- `pending::frame_pending` meets its contract. The invariant is `Framing`; a turn is `frame-go` or `frame-stop` of FlushLaws.
+-- `passes::frame_pending` meets its contract. The invariant is `Framing`; a turn is `frame-go` or `frame-stop` of FlushLaws.
 -- Assumes nothing.
 use Prim.Native.Nat.{ℕ, _+_, _≤_, _-_, _<_}
 use mathlib.Core.Path.{sym, _∙_, ap}

@@ -1,4 +1,4 @@
--- `pending::plan` meets its contract: the sizes are those of the flush, by `sizes-by`.
+-- `passes::plan` meets its contract: the sizes are those of the flush, by `sizes-by`.
 -- Assumes nothing.
 use mathlib.Core.Path.{_≡_, sym, ap, _∙_}
 use mathlib.Core.Bool.{false}

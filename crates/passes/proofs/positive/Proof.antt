@@ -1,4 +1,4 @@
--- `pending::positive` meets its contract, by its test.
+-- `passes::positive` meets its contract, by its test.
 -- Assumes nothing.
 use borrow.Author.Tests.{eq-eqb, ne-eqb}
 use Rattle.passes.specs.Flush.{positiveOf}

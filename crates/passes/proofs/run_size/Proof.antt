@@ -1,4 +1,4 @@
--- `pending::run_size` meets its contract: the size is that of any data of that length.
+-- `passes::run_size` meets its contract: the size is that of any data of that length.
 -- Assumes nothing.
 use mathlib.Core.Path.{ap, _∙_}
 use lib.ListN.{replicate, length-replicate}

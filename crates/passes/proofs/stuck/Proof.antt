@@ -1,4 +1,4 @@
--- `pending::stuck` meets its contract, by its test.
+-- `passes::stuck` meets its contract, by its test.
 -- Assumes nothing.
 use borrow.Author.Tests.{eq-eqb, ne-eqb}
 use borrow.Author.Needs.{needs}

@@ -1,4 +1,4 @@
--- `pending::taken` meets its contract, by its test.
+-- `passes::taken` meets its contract, by its test.
 -- Assumes nothing.
 use Prim.Native.Nat.{ℕ, min}
 use mathlib.Core.Path.{ap, _∙_}
