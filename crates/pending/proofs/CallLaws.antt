@@ -33,6 +33,7 @@ use Rattle.lookup.specs.Update.{placed, filed, counted, stagedMore, sentMore}
 use Rattle.lookup.proofs.Limits.{limits}
 use Rattle.lookup.proofs.Decided.{by-load, none-known, held-known, straight-is}
 use Rattle.lookup.proofs.Bridge.{Put, put-none, put-as, Places, changed-places, freed-places}
+use Rattle.lookup.proofs.Framed.{put-written}
 use Rattle.lookup.proofs.Branch.{HasRoom, sent, staged, refusing, lacking, gone}
 use Rattle.passes.specs.declared.Size.{Size}
 use Rattle.passes.specs.Keep.{queueWith, entriesWith, tableWith}
@@ -48,10 +49,7 @@ use Rattle.pending.proofs.PlanLaws.{flush-limit, flush-goes, closed-pla
 pub goes-by : (r : Raw) → Typed r → isSound r ≡ true → (k : Call) (o : Outcome) → o ≡ called r k → Goes r k o
 goes-by r ty sd k o e = record { is = e; typed = ty; sound = ap (λ x. isSound (x .state)) e ∙ sound-stays r ty k ∙ sd }
 
--- bytes written behind a buffer's used part
-written-as : (n : ℕ) (l bs : List ℕ) → n + length bs ≤ length l → Put n l bs (n + length bs) (write n bs l)
-written-as n l bs h = record { count = refl; bytes = sym (write-eq n bs l h) }
-
+-- two runs of bytes, one behind the other
 written-two : (n : ℕ) (l xs ys : List ℕ) → n + (length xs + length ys) ≤ length l
     → Put n l (xs ++ ys) (n + (length xs + length ys)) (write (n + length xs) ys (write n xs l))
 written-two n l xs ys h =
@@ -168,8 +166,8 @@ module _ (r : Raw) (ty : Typed r) (sd : isSound r ≡ true) (route : Route) (n i
     sent-is l m =
         after true w free
         (record { sent = l; staged = m; queue = tt })
-        (written-as (r .held .«staged_used») (r .staged) (frames (controlOf C (F .all))) m)
-        (written-as (r .held .«sent_used») (r .sent) (frames (F .out)) l)
+        (put-written (r .held .«staged_used») (r .staged) (frames (controlOf C (F .all))) m)
+        (put-written (r .held .«sent_used») (r .sent) (frames (F .out)) l)
 
 -- THE ROUTES
 
