@@ -96,6 +96,7 @@ fn room(random: &mut Random, small: bool) -> [u32; 3] {
     })
 }
 
+/// Draws what a script is like. One in ten hoards entries.
 fn bent(random: &mut Random, room: [u32; 3], small: bool) -> Bent {
     let calls = match random.below(100) {
         _ if small => random.between(8, 24),
@@ -119,7 +120,7 @@ fn bent(random: &mut Random, room: [u32; 3], small: bool) -> Bent {
         writer: random.pick(&[0, 50, 50, 50, 100]),
         hoard: 0,
         longest: if small { 24 } else { random.pick(&[20, 100, largest + 20]).min(60_000) },
-        outside: if small { 0 } else { random.pick(&[0, 2, 10]) },
+        outside: if small { 0 } else { random.pick(&[0, 5, 30]) },
     };
     if small || largest > 5_000 || random.percent(90) {
         return bent;
@@ -176,12 +177,19 @@ fn draw(random: &mut Random, bent: &Bent, player: &Player) -> Call {
         return Call::Incoming { payload: reply(random, number) };
     }
     let (writer, rekey) = (random.percent(bent.writer), random.percent(bent.rekey));
-    match random.below(100) {
-        0..=27 => data(random, bent, record, writer, rekey, number),
+    let roll = match random.below(100) {
+        45..=61 if random.percent(bent.hoard) => 0,
+        roll => roll,
+    };
+    match roll {
+        0..=27 => {
+            let length = data_length(random, bent, player, record);
+            let code = random.percent(40).then(|| random.pick(&[0, 1, 1, 2, 0xffff_ffff]));
+            Call::Data { writer, rekey, number, code, bytes: random.bytes(length) }
+        }
         28..=32 => Call::Eof { number },
         33..=35 => Call::Close { number },
         36..=44 => adjust(random, record, number),
-        45..=61 if random.percent(bent.hoard) => data(random, bent, record, writer, rekey, number),
         45..=56 => Call::FlushPending { writer, rekey, number },
         57..=61 => Call::FlushAllPending { writer, rekey },
         62..=69 => Call::Flush { rekey },
@@ -210,16 +218,18 @@ fn opening(random: &mut Random, last: u32) -> Call {
     Call::OpenForPeer { number, peer, window, limit, peer_window, peer_limit: random.size() }
 }
 
-/// Data with a length about the window, the limit, or sums of them.
-fn data(random: &mut Random, bent: &Bent, record: &ChannelParams, writer: bool, rekey: bool, number: u32) -> Call {
+/// A length of data about the window, the limit, sums of them, or what fills a buffer in one packet.
+fn data_length(random: &mut Random, bent: &Bent, player: &Player, record: &ChannelParams) -> u32 {
     let (window, limit) = (record.recipient_window_size, record.recipient_maximum_packet_size);
-    let sums = [0, limit, limit.wrapping_mul(2), limit.wrapping_mul(3), window, window.wrapping_add(limit)];
-    let length = match random.near(&sums) {
-        length if length <= bent.longest && random.percent(70) => length,
-        _ => random.below(bent.longest + 1),
+    let counts = player.counts();
+    let free = |buffer: usize| (player.room[buffer] - counts[buffer]) as u32;
+    let length = if random.percent(15) {
+        let header = random.pick(&[13, 17]);
+        random.near(&[free(0), free(0).wrapping_add(window), free(1).wrapping_sub(header), free(2).wrapping_sub(header)])
+    } else {
+        random.near(&[0, limit, limit.wrapping_mul(2), limit.wrapping_mul(3), window, window.wrapping_add(limit)])
     };
-    let code = random.percent(40).then(|| random.pick(&[0, 1, 1, 2, 0xffff_ffff]));
-    Call::Data { writer, rekey, number, code, bytes: random.bytes(length) }
+    if length <= bent.longest && random.percent(70) { length } else { random.below(bent.longest + 1) }
 }
 
 /// A charge about the window and about half the target.
