@@ -73,9 +73,13 @@ pub struct Difference {
 }
 
 /// What `replay` writes for a script.
-pub fn run(replay: &str, script: &[u8]) -> String {
-    let mut child =
-        Command::new(replay).stdin(Stdio::piped()).stdout(Stdio::piped()).spawn().unwrap_or_else(|error| panic!("{replay}: {error}"));
+pub fn run(replay: &[&str], script: &[u8]) -> String {
+    let mut child = Command::new(replay[0])
+        .args(&replay[1..])
+        .stdin(Stdio::piped())
+        .stdout(Stdio::piped())
+        .spawn()
+        .unwrap_or_else(|error| panic!("{}: {error}", replay[0]));
     let (mut stdin, mut stdout) = (child.stdin.take().unwrap(), child.stdout.take().unwrap());
     let mut bytes = Vec::new();
     std::thread::scope(|scope| {
@@ -158,7 +162,7 @@ pub fn normal(call: &str) -> String {
 }
 
 /// Plays a script on both sides up to the first call outside the domain, of which the refusal's number is compared.
-pub fn compare(replay: &str, script: &Script) -> Result<Tally, Difference> {
+pub fn compare(replay: &[&str], script: &Script) -> Result<Tally, Difference> {
     let text = run(replay, &script.write());
     let mut rest = text.as_str();
     let mut player = Player::new(script.room);
@@ -189,7 +193,7 @@ pub fn compare(replay: &str, script: &Script) -> Result<Tally, Difference> {
 }
 
 /// A script that still differs and from which no call can be dropped. What stands behind the difference goes first.
-pub fn shrink(replay: &str, mut script: Script, difference: &Difference) -> Script {
+pub fn shrink(replay: &[&str], mut script: Script, difference: &Difference) -> Script {
     script.calls.truncate(difference.call + 1);
     let mut run = script.calls.len() / 2;
     while run > 0 {

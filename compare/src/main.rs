@@ -23,19 +23,20 @@ use player::{Outcome, Player, lines};
 use script::{Call, Script};
 use standins::{Error, compression};
 
-const USAGE: &str = "usage: compare run REPLAY SCRIPTS CALLS SEED FAILING
-       compare one REPLAY SCRIPT     compares one script
+const USAGE: &str = "usage: compare run SCRIPTS CALLS SEED FAILING REPLAY..
+       compare one SCRIPT REPLAY..   compares one script
        compare show < SCRIPT         a script's calls and what the draft does
        compare make SEED COUNT       writes sample scripts
-       compare sample < SCRIPTS      what the draft does with them";
+       compare sample < SCRIPTS      what the draft does with them
+REPLAY.. are the words of the command that plays a script.";
 
 fn main() -> ExitCode {
     let arguments: Vec<String> = env::args().skip(1).collect();
     match arguments.iter().map(String::as_str).collect::<Vec<_>>()[..] {
-        ["run", replay, scripts, calls, seed, failing] => {
+        ["run", scripts, calls, seed, failing, ref replay @ ..] if !replay.is_empty() => {
             run(replay, number(scripts) as usize, number(calls) as usize, number(seed), failing)
         }
-        ["one", replay, path] => one(replay, &fs::read(path).expect("the script")),
+        ["one", path, ref replay @ ..] if !replay.is_empty() => one(replay, &fs::read(path).expect("the script")),
         ["show"] => show(&input()),
         ["make", seed, count] => make(number(seed), number(count) as usize),
         ["sample"] => sample(&input()),
@@ -57,7 +58,7 @@ fn input() -> Vec<u8> {
 }
 
 /// Compares random scripts until there are as many scripts and calls as asked for, or the two sides differ.
-fn run(replay: &str, scripts: usize, calls: usize, seed: u64, failing: &str) -> ExitCode {
+fn run(replay: &[&str], scripts: usize, calls: usize, seed: u64, failing: &str) -> ExitCode {
     let mut random = Random(seed);
     let mut total = Tally::default();
     while total.scripts < scripts || total.compared() < calls {
@@ -82,7 +83,7 @@ fn run(replay: &str, scripts: usize, calls: usize, seed: u64, failing: &str) -> 
 }
 
 /// Compares one script and shows where it differs.
-fn one(replay: &str, bytes: &[u8]) -> ExitCode {
+fn one(replay: &[&str], bytes: &[u8]) -> ExitCode {
     let script = Script::read(bytes).expect("a script");
     match against::compare(replay, &script) {
         Ok(tally) => {
