@@ -1,0 +1,76 @@
+// Plays a script of calls and shows every answer and the whole state after each call. docs/REPLAY.md has the format.
+use channel::Table;
+use libc::STDIN_FILENO;
+use libc::STDOUT_FILENO;
+use player::fill;
+use player::flush;
+use player::play;
+use player::put;
+use player::put_number;
+use player::show_answer;
+use player::show_state;
+use player::u32_at;
+
+// The line for what is no call, with its place in the script.
+fn show_no_call(out: &mut [u8; 16384], start: usize, place: usize) -> usize {
+    let mut at = put(out, start, b'!');
+    at = put_number(out, at, place as u64);
+    put(out, at, b'\n')
+}
+
+// Every call up to the script's end, or up to what is no call. Answers the count of bytes that are still to be written.
+fn play_all(
+    script: &[u8],
+    queue: &mut [u8],
+    staged: &mut [u8],
+    sent: &mut [u8],
+    out: &mut [u8; 16384],
+) -> usize {
+    let mut t = Table::new();
+    let mut place: usize = 12;
+    let mut at: usize = 0;
+    while place < script.len() {
+        let p = play(&script[place..], t, queue, staged, sent);
+        let size = p.size;
+        if size == 0 {
+            return show_no_call(out, at, place);
+        }
+        let answer = p.answer;
+        t = p.table;
+        at = show_answer(out, at, answer);
+        at = show_state(out, at, t, queue, staged, sent);
+        place += size;
+    }
+    at
+}
+
+// The script's calls, over lent buffers.
+fn run(script: &[u8], queue: &mut [u8], staged: &mut [u8], sent: &mut [u8]) {
+    let mut out = [0u8; 16384];
+    fill(queue);
+    fill(staged);
+    fill(sent);
+    let at = play_all(script, queue, staged, sent, &mut out);
+    flush(&out, at);
+}
+
+// The script whole: the lengths of the lent buffers first.
+fn start(script: &[u8]) {
+    let a = u32_at(script, 0) as usize;
+    let b = u32_at(script, 4) as usize;
+    let c = u32_at(script, 8) as usize;
+    if (script.len() < 12) | (a > 65537) | (b > 65537) | (c > 65537) {
+        io::write_all(STDOUT_FILENO, b"! 0\n");
+        return;
+    }
+    let mut queue = [0u8; 65537];
+    let mut staged = [0u8; 65537];
+    let mut sent = [0u8; 65537];
+    run(script, &mut queue[..a], &mut staged[..b], &mut sent[..c]);
+}
+
+fn main() {
+    let mut script = [0u8; 262144];
+    let n = io::read_full(STDIN_FILENO, &mut script);
+    start(&script[..n]);
+}
