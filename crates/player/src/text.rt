@@ -13,13 +13,18 @@ pub fn put(out: &mut [u8; 16384], at: usize, b: u8) -> usize {
     1
 }
 
-// What is collected goes out; no more is there than the buffer has.
-pub fn flush(out: &[u8], at: usize) {
-    if at < out.len() {
-        io::write_all(STDOUT_FILENO, &out[0..at]);
+// The first n bytes, or all that there are, go out.
+fn write_first(bytes: &[u8], n: usize) {
+    if n < bytes.len() {
+        io::write_all(STDOUT_FILENO, &bytes[0..n]);
         return;
     }
-    io::write_all(STDOUT_FILENO, out);
+    io::write_all(STDOUT_FILENO, bytes);
+}
+
+// What is collected goes out.
+pub fn flush(out: &mut [u8; 16384], at: usize) {
+    write_first(out, at);
 }
 
 // A number in decimal, after a space.

@@ -35,11 +35,11 @@ fn play_all(
         if size == 0 {
             return show_no_call(out, at, place);
         }
+        place += size;
         let answer = p.answer;
         t = p.table;
         at = show_answer(out, at, answer);
         at = show_state(out, at, t, queue, staged, sent);
-        place += size;
     }
     at
 }
@@ -51,22 +51,44 @@ fn run(script: &[u8], queue: &mut [u8], staged: &mut [u8], sent: &mut [u8]) {
     fill(staged);
     fill(sent);
     let at = play_all(script, queue, staged, sent, &mut out);
-    flush(&out, at);
+    flush(&mut out, at);
 }
 
-// The script whole: the lengths of the lent buffers first.
-fn start(script: &[u8]) {
-    let a = u32_at(script, 0) as usize;
-    let b = u32_at(script, 4) as usize;
-    let c = u32_at(script, 8) as usize;
-    if (script.len() < 12) | (a > 65537) | (b > 65537) | (c > 65537) {
-        io::write_all(STDOUT_FILENO, b"! 0\n");
+// The line for a script that does not start with three lengths of at most 65,537.
+fn show_no_script() {
+    io::write_all(STDOUT_FILENO, b"! 0\n");
+}
+
+// The script's calls, over parts of three arrays.
+fn lend(script: &[u8], a: usize, b: usize, c: usize) {
+    if a > 65537 {
+        show_no_script();
+        return;
+    }
+    if b > 65537 {
+        show_no_script();
+        return;
+    }
+    if c > 65537 {
+        show_no_script();
         return;
     }
     let mut queue = [0u8; 65537];
     let mut staged = [0u8; 65537];
     let mut sent = [0u8; 65537];
-    run(script, &mut queue[..a], &mut staged[..b], &mut sent[..c]);
+    run(script, &mut queue[0..a], &mut staged[0..b], &mut sent[0..c]);
+}
+
+// The script whole: the lengths of the lent buffers first.
+fn start(script: &[u8]) {
+    if script.len() < 12 {
+        show_no_script();
+        return;
+    }
+    let a = u32_at(script, 0) as usize;
+    let b = u32_at(script, 4) as usize;
+    let c = u32_at(script, 8) as usize;
+    lend(script, a, b, c);
 }
 
 fn main() {
