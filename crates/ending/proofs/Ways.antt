@@ -1,13 +1,12 @@
 -- EOF and CLOSE over the code's state: a law for each way out, over either message.
 -- Assumes nothing.
-use Prim.Native.Nat.{ℕ, _+_, _≤_, _<_}
-use mathlib.Core.Path.{_≡_, refl, sym, ap, ap₂, _∙_}
+use Prim.Native.Nat.{ℕ, _+_, _≤_}
+use mathlib.Core.Path.{_≡_, refl, sym, ap, _∙_}
 use mathlib.Core.Bool.{Bool, true, false}
 use mathlib.Core.List.{List, [], _∷_}
 use lib.ListN.{length}
 use native.Mathlib.Omega.{arith}
 use Rattle.octets.specs.Buf.{write}
-use Rattle.octets.proofs.Laws.{write-eq}
 use Rattle.channel.specs.declared.Record.{Record}
 use Rattle.channel.specs.declared.Refusal.{Refusal}
 use Rattle.channel.specs.declared.Refusal.the-variants as Refusal
@@ -20,12 +19,13 @@ use Rattle.channel.specs.Decide as I
 use Rattle.channel.specs.Step.{apply, step}
 use Rattle.channel.specs.Raw.{Raw, placesOf, entriesOf, meaning}
 use Rattle.channel.specs.Sound.{isSound}
-use Rattle.channel.specs.Called.{Typed, Outcome, called, outcome}
+use Rattle.channel.specs.Called.{Typed, called, outcome}
 use Rattle.channel.specs.Answers.{refusal}
 use Rattle.channel.specs.Answers as A
 use Rattle.lookup.specs.Held.{HeldAt, recordAt}
 use Rattle.lookup.specs.Update.{recordSet, stagedMore}
-use Rattle.lookup.proofs.Bridge.{behind}
+use Rattle.lookup.proofs.Bridge.{Put}
+use Rattle.lookup.proofs.Framed.{put-frame}
 use Rattle.lookup.proofs.Decided.{if-true, if-false, serves-is, none-passes, held-fails, held-passes, held-has, by-act}
 use Rattle.lookup.proofs.Branch as B
 use Rattle.frames.proofs.Packets.{frames-one, length-eof, length-close}
@@ -104,14 +104,12 @@ module _ (r : Raw) (ty : Typed r) (sd : isSound r ≡ true) (e : Ending) (n : �
     sent f v l =
         let p = peerOf (recordAt (r .held) i) in
         let m = messageOf e p in
-        let at = r .held .«staged_used» in
-        let one : length (frame m) ≡ 9 = nine e p in
-        let size : length (frames (m ∷ [])) ≡ 9 = ap length (frames-one m) ∙ one in
-        put-out e (act (callOf e n)) (m ∷ []) (by-act r (callOf e n) (on-sending f v)) (omega arith)
-        ∙ ap₂ {C = Outcome} (λ x y. outcome (gave done) (stagedMore (leaves e (r .held) i) x) (r .queue) y (r .sent)) size (ap (λ bs. behind at bs (r .staged)) (frames-one m) ∙ sym (write-eq at (frame m) (r .staged) (omega arith)))
+        let size : length (frames (m ∷ [])) ≡ 9 = ap length (frames-one m) ∙ nine e p in
+        put-out e (act (callOf e n)) (m ∷ []) (by-act r (callOf e n) (on-sending f v)) (omega arith) 9 (put-frame (r .held .«staged_used») (r .staged) m (nine e p) l)
       where
         put-out : (a : Ending) (k : Call) (ms : List (List ℕ)) → step (meaning r) k ≡ apply (meaning r) false (staging done (left a (meaning r .table) (recordAt (r .held) i)) ms)
             → r .held .«staged_used» + length (frames ms) ≤ length (r .staged)
-            → called r k ≡ outcome (gave done) (stagedMore (leaves a (r .held) i) (length (frames ms))) (r .queue) (behind (r .held .«staged_used») (frames ms) (r .staged)) (r .sent)
-        put-out Eof k ms d g = B.put-is r ty sd k false done ms d g
-        put-out Close k ms d g = B.freed-put-is r ty sd k false done n i h ms d g
+            → (x : ℕ) {st : List ℕ} → Put (r .held .«staged_used») (r .staged) (frames ms) (r .held .«staged_used» + x) st
+            → called r k ≡ outcome (gave done) (stagedMore (leaves a (r .held) i) x) (r .queue) st (r .sent)
+        put-out Eof k ms d g x = B.put-is r ty sd k false done ms d g
+        put-out Close k ms d g x = B.freed-put-is r ty sd k false done n i h ms d g

@@ -1,169 +1,48 @@
-// Incoming messages: reading one payload, and what it does to the table.
+// Incoming messages: what reading one payload does to the table (document 01, Incoming).
+use channel::Acted;
 use channel::Adjust;
 use channel::ChannelData;
 use channel::ChannelId;
 use channel::Confirmation;
 use channel::Failure;
-use channel::Kind;
 use channel::Message;
 use channel::PeerNumber;
 use channel::Record;
 use channel::Refusal;
 use channel::Table;
 use channel::Taken;
-use channel::Text;
+use credit::add_credit;
+use frames::put_close;
 use lookup::Found;
 use lookup::find;
 use lookup::free_place;
 use lookup::with_record;
-use octets::read_u32;
+use pending::drop_entries;
+use reading::Read;
+use reading::read_message;
+use soundness::sound;
 ghost use mathlib.Core.Path.{_≡_};
-ghost use Prim.Native.Nat.{ℕ, _+_, _≤_};
-ghost use Rattle.channel.specs.declared.Kind.the-variants as K;
+ghost use mathlib.Core.Bool.{true};
+ghost use Prim.Native.Nat.{ℕ, _+_, _≤_, _<_};
+ghost use lib.ListN.{length};
+ghost use Rattle.laws.specs.Bits.{bit};
+ghost use Rattle.octets.specs.Buf.{write};
 ghost use Rattle.channel.specs.declared.Message.the-variants as M;
-ghost use Rattle.channel.specs.State.{mostWindow};
-ghost use Rattle.channel.specs.Change.{confirm, withPeerWindow};
-ghost use Rattle.channel.specs.Read.{int, stringEnds, readMessage};
-ghost use Rattle.incoming.specs.Reads.{readOf, confirmationAt, failureAt, creditAt, receivedAt, endAt};
-ghost use Rattle.incoming.specs.Takes.{Takes, Hears};
-
-// What a payload reads as.
-enum Read {
-    Malformed,
-    Reads(Message),
-}
+ghost use Rattle.channel.specs.State.{placeCount, mostBytes, without};
+ghost use Rattle.channel.specs.Wire.{frame, closeMessage};
+ghost use Rattle.channel.specs.Call.{act, incoming};
+ghost use Rattle.channel.specs.Change.{confirm};
+ghost use Rattle.channel.specs.Called.{lent, outcome, called};
+ghost use Rattle.channel.specs.Answers.{taken};
+ghost use Rattle.lookup.specs.Update.{placeFreed, stagedMore};
+ghost use Rattle.pending.specs.Keep.{Base, queueWith, tableWith};
+ghost use Rattle.pending.specs.Plan.{entriesIn};
+ghost use Rattle.incoming.specs.Takes.{Takes, TakesWith, Hears, creditTaken, creditTable};
 
 // Whether a channel can take a message, or why not.
 enum Heard {
     Yes,
     Not(Refusal),
-}
-
-// A string's length stands at the place, and its bytes end the payload.
-fn string_ends(p: &[u8], at: usize) -> bool
-    requires { ⌜ at ≤ 4294967308 ⌝ }
-    ensures { λ b. ⌜ b ≡ stringEnds (now (p .entry)) at ⌝ }
-{
-    if at + 4 <= p.len() {
-        return at + 4 + read_u32(p, at) as usize == p.len();
-    }
-    false
-}
-
-// 91: recipient, sender, window, limit, then anything.
-fn read_confirmation(p: &[u8]) -> Read
-    ensures { λ r. ⌜ readOf r ≡ confirmationAt (now (p .entry)) ⌝ }
-{
-    if 17 <= p.len() {
-        let m = Confirmation {
-            recipient: ChannelId(read_u32(p, 1)),
-            sender: PeerNumber(read_u32(p, 5)),
-            window: read_u32(p, 9),
-            limit: read_u32(p, 13),
-        };
-        return Read::Reads(Message::OpenConfirmation(m));
-    }
-    Read::Malformed
-}
-
-// 92: recipient, reason, two strings.
-fn read_failure(p: &[u8]) -> Read
-    ensures { λ r. ⌜ readOf r ≡ failureAt (now (p .entry)) ⌝ }
-{
-    if 13 <= p.len() {
-        let length = read_u32(p, 9);
-        let at = 13 + length as usize;
-        if string_ends(p, at) {
-            let m = Failure {
-                recipient: ChannelId(read_u32(p, 1)),
-                reason: read_u32(p, 5),
-                description: Text { start: 13, length },
-                language: Text {
-                    start: at + 4,
-                    length: read_u32(p, at),
-                },
-            };
-            return Read::Reads(Message::OpenFailure(m));
-        }
-    }
-    Read::Malformed
-}
-
-// 93: recipient, bytes to add.
-fn read_adjust(p: &[u8]) -> Read
-    ensures { λ r. ⌜ readOf r ≡ creditAt (now (p .entry)) ⌝ }
-{
-    if p.len() == 9 {
-        let m = Adjust {
-            recipient: ChannelId(read_u32(p, 1)),
-            add: read_u32(p, 5),
-        };
-        return Read::Reads(Message::WindowAdjust(m));
-    }
-    Read::Malformed
-}
-
-// 94 and 95: recipient and, from the place on, the data; the kind is the caller's to read.
-fn read_data(p: &[u8], kind: Kind, at: usize) -> Read
-    requires { ⌜ (1 ≤ at) × (at ≤ 9) ⌝ }
-    ensures { λ r. ⌜ readOf r ≡ receivedAt (now (p .entry)) kind at ⌝ }
-{
-    if string_ends(p, at) {
-        let m = ChannelData {
-            recipient: ChannelId(read_u32(p, 1)),
-            kind,
-            text: Text {
-                start: at + 4,
-                length: read_u32(p, at),
-            },
-        };
-        return Read::Reads(Message::Data(m));
-    }
-    Read::Malformed
-}
-
-// 95: recipient, code, data.
-fn read_extended(p: &[u8]) -> Read
-    ensures { λ r. ⌜ readOf r ≡ receivedAt (now (p .entry)) (K.Extended (int (now (p .entry)) 5)) 9 ⌝ }
-{
-    if 9 <= p.len() {
-        return read_data(p, Kind::Extended(read_u32(p, 5)), 9);
-    }
-    Read::Malformed
-}
-
-// 96 and 97: the recipient alone.
-fn read_end(p: &[u8], closes: bool) -> Read
-    ensures { λ r. ⌜ readOf r ≡ endAt (now (p .entry)) closes ⌝ }
-{
-    if p.len() == 5 {
-        let n = ChannelId(read_u32(p, 1));
-        if closes {
-            return Read::Reads(Message::Close(n));
-        }
-        return Read::Reads(Message::Eof(n));
-    }
-    Read::Malformed
-}
-
-// What a payload reads as, by its type byte.
-fn read_message(p: &[u8]) -> Read
-    ensures { λ r. ⌜ readOf r ≡ readMessage (now (p .entry)) ⌝ }
-{
-    if p.len() == 0 {
-        return Read::Malformed;
-    }
-    let number = p[0];
-    match number {
-        91 => read_confirmation(p),
-        92 => read_failure(p),
-        93 => read_adjust(p),
-        94 => read_data(p, Kind::Plain, 5),
-        95 => read_extended(p),
-        96 => read_end(p, false),
-        97 => read_end(p, true),
-        _ => Read::Malformed,
-    }
 }
 
 // What `incoming` leaves.
@@ -190,16 +69,6 @@ fn confirmed_record(r: Record, m: Confirmation) -> Record
         pending_eof: r.pending_eof,
         pending_close: r.pending_close,
     }
-}
-
-// The record with credit added, and no other field changed.
-fn credited_record(r: Record, add: u32) -> Record
-    requires { ⌜ r .«recipient_window_size» + add ≤ mostWindow ⌝ }
-    ensures { λ d. ⌜ d ≡ withPeerWindow r (r .«recipient_window_size» + add) ⌝ }
-{
-    let mut next = r;
-    next.recipient_window_size = r.recipient_window_size + add;
-    next
 }
 
 // A 91 confirms a record that is not confirmed.
@@ -256,6 +125,29 @@ fn take_failure(t: Table, m: Failure) -> Arrived
     }
 }
 
+// The credit of a 93 to the record at place i.
+fn credit_at(t: Table, i: usize, c: Record, m: Adjust) -> Arrived
+    requires { ⌜ i < placeCount ⌝ }
+    ensures { λ r. ⌜ (r .answer ≡ creditTaken c m) × (r .table ≡ creditTable t i c m) ⌝ }
+{
+    let o = add_credit(c, m.add);
+    let answer = o.answer;
+    match answer {
+        Acted::Done => {
+            let d = o.record;
+            let next = with_record(t, i, d);
+            Arrived {
+                answer: Taken::Took(Message::WindowAdjust(m)),
+                table: next,
+            }
+        }
+        Acted::Refused(k) => Arrived {
+            answer: Taken::Refused(k),
+            table: t,
+        },
+    }
+}
+
 // A 93 adds credit, if the window does not pass its limit.
 fn take_credit(t: Table, m: Adjust) -> Arrived
     ensures { λ r. ⌜ Takes t (M.WindowAdjust m) (r .answer) (r .table) ⌝ }
@@ -265,17 +157,7 @@ fn take_credit(t: Table, m: Adjust) -> Arrived
         Found::At(i) => {
             let c = t.records[i];
             if c.confirmed {
-                if m.add <= 4294967295 - c.recipient_window_size {
-                    let next = with_record(t, i, credited_record(c, m.add));
-                    return Arrived {
-                        answer: Taken::Took(Message::WindowAdjust(m)),
-                        table: next,
-                    };
-                }
-                return Arrived {
-                    answer: Taken::Refused(Refusal::Credit),
-                    table: t,
-                };
+                return credit_at(t, i, c, m);
             }
             Arrived {
                 answer: Taken::Refused(Refusal::Unconfirmed),
@@ -337,5 +219,109 @@ fn take_eof(t: Table, n: ChannelId) -> Arrived
             answer: Taken::Refused(k),
             table: t,
         },
+    }
+}
+
+// The CLOSE staged for the peer, the record's place freed, and the channel's entries out of the queue.
+fn end_channel(
+    t: Table,
+    queue: &mut [u8],
+    staged: &mut [u8],
+    i: usize,
+    peer: PeerNumber,
+    n: ChannelId,
+) -> Table
+    requires { ⌜ Base (t .entries) (t .«entry_count») (now queue) (t .«queue_used») ⌝ }
+    requires { ⌜ (i < placeCount) × (bit (t .used) i ≡ true) × (t .«staged_used» + 9 ≤ length (now staged)) × (t .«staged_used» ≤ mostBytes) ⌝ }
+    ensures { λ r. ⌜ now (queue .exit) ≡ queueWith (without (n .0) (entriesIn t (now (queue .entry)))) (t .«queue_used») (now (queue .entry)) ⌝ }
+    ensures { λ r. ⌜ now (staged .exit) ≡ write (t .«staged_used») (frame (closeMessage (peer .0))) (now (staged .entry)) ⌝ }
+    ensures { λ r. ⌜ r ≡ stagedMore (tableWith (without (n .0) (entriesIn t (now (queue .entry)))) (placeFreed t i)) 9 ⌝ }
+{
+    let at = t.staged_used;
+    put_close(staged, at, peer);
+    let freed = free_place(t, i);
+    let rest = drop_entries(freed, queue, n);
+    let mut next = rest;
+    next.staged_used = at + 9;
+    next
+}
+
+// A 97 stages a CLOSE, 9 bytes, and then drops the record and its entries.
+fn take_close(t: Table, queue: &mut [u8], staged: &mut [u8], n: ChannelId) -> Arrived
+    requires { ⌜ Base (t .entries) (t .«entry_count») (now queue) (t .«queue_used») ⌝ }
+    requires { ⌜ t .«staged_used» ≤ mostBytes ⌝ }
+    ensures { λ r. ⌜ TakesWith t (now (queue .entry)) (now (staged .entry)) (M.Close n) (r .answer) (r .table) (now (queue .exit)) (now (staged .exit)) ⌝ }
+{
+    let here = find(t, n);
+    match here {
+        Found::At(i) => {
+            let c = t.records[i];
+            if c.confirmed {
+                if t.staged_used + 9 <= staged.len() {
+                    let peer = c.recipient_channel;
+                    let next = end_channel(t, queue, staged, i, peer, n);
+                    return Arrived {
+                        answer: Taken::Took(Message::Close(n)),
+                        table: next,
+                    };
+                }
+                return Arrived {
+                    answer: Taken::Refused(Refusal::Room),
+                    table: t,
+                };
+            }
+            Arrived {
+                answer: Taken::Refused(Refusal::Unconfirmed),
+                table: t,
+            }
+        }
+        Found::Nothing => Arrived {
+            answer: Taken::Refused(Refusal::Unknown),
+            table: t,
+        },
+    }
+}
+
+// A message that was read, by its kind.
+fn take_in(t: Table, queue: &mut [u8], staged: &mut [u8], m: Message) -> Arrived
+    requires { ⌜ Base (t .entries) (t .«entry_count») (now queue) (t .«queue_used») ⌝ }
+    requires { ⌜ t .«staged_used» ≤ mostBytes ⌝ }
+    ensures { λ r. ⌜ TakesWith t (now (queue .entry)) (now (staged .entry)) m (r .answer) (r .table) (now (queue .exit)) (now (staged .exit)) ⌝ }
+{
+    match m {
+        Message::OpenConfirmation(x) => take_confirmation(t, x),
+        Message::OpenFailure(x) => take_failure(t, x),
+        Message::WindowAdjust(x) => take_credit(t, x),
+        Message::Data(x) => take_data(t, x),
+        Message::Eof(n) => take_eof(t, n),
+        Message::Close(n) => take_close(t, queue, staged, n),
+    }
+}
+
+// One payload is read and acted on: its message is the answer.
+pub fn incoming(
+    t: Table,
+    queue: &mut [u8],
+    staged: &mut [u8],
+    sent: &[u8],
+    payload: &[u8],
+) -> Arrived
+    ensures { λ r. ⌜ outcome (taken (r .answer)) (r .table) (now (queue .exit)) (now (staged .exit)) (now (sent .exit))
+        ≡ called (lent t (now (queue .entry)) (now (staged .entry)) (now (sent .entry))) (act (incoming (now (payload .entry)))) ⌝ }
+{
+    if sound(t, &queue[..], &staged[..], sent) {
+        let read = read_message(payload);
+        match read {
+            Read::Malformed => Arrived {
+                answer: Taken::Refused(Refusal::Malformed),
+                table: t,
+            },
+            Read::Reads(m) => take_in(t, queue, staged, m),
+        }
+    } else {
+        Arrived {
+            answer: Taken::Refused(Refusal::State),
+            table: t,
+        }
     }
 }

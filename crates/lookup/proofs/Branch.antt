@@ -30,9 +30,9 @@ use Rattle.channel.proofs.Wire.{frames-append}
 use Rattle.channel.proofs.Room.{needs-true, needs-false}
 use Rattle.channel.proofs.Faithful.{written-meaning, sizes}
 use Rattle.lookup.specs.Held.{HeldAt, FreeAt, recordAt}
-use Rattle.lookup.specs.Update.{placed, filed, counted, lastSet, recordSet, placeFreed, placeTaken, stagedMore}
+use Rattle.lookup.specs.Update.{placed, filed, counted, lastSet, recordSet, placeFreed, placeTaken}
 use Rattle.lookup.proofs.Limits.{limits}
-use Rattle.lookup.proofs.Bridge.{behind, Put, put-some, put-none, put-as, behind-seam, Places, same-places, settled-places, changed-places, freed-places, Rows, same-rows}
+use Rattle.lookup.proofs.Bridge.{behind, Put, put-none, put-as, behind-seam, Places, same-places, settled-places, changed-places, freed-places, Rows, same-rows}
 
 -- ANSWER 1
 
@@ -273,9 +273,10 @@ module _ (r : Raw) (ty : Typed r) (sd : isSound r ≡ true) (k : Call) (b : Bool
 
   -- messages are staged
   pub put-is : (ms : List (List ℕ)) → step (meaning r) k ≡ apply (meaning r) b (staging ans (meaning r .table) ms) → r .held .«staged_used» + length (frames ms) ≤ length (r .staged)
-      → called r k ≡ outcome (gave ans) (stagedMore (r .held) (length (frames ms))) (r .queue) (behind (r .held .«staged_used») (frames ms) (r .staged)) (r .sent)
+      → {su : ℕ} {st : List ℕ} → Put (r .held .«staged_used») (r .staged) (frames ms) su st
+      → called r k ≡ outcome (gave ans) (counted (r .held) su (r .held .«sent_used»)) (r .queue) st (r .sent)
   unfolding R.meaning
-  put-is ms d h = control-is (meaning r .table) ms d h (same-places r ty sd) (same-rows r ty sd) (put-some (r .held .«staged_used») (r .staged) (frames ms))
+  put-is ms d h = control-is (meaning r .table) ms d h (same-places r ty sd) (same-rows r ty sd)
 
   -- the last number changes
   pub last-is : (n : ℕ) → step (meaning r) k ≡ apply (meaning r) b (quiet ans (withLast (meaning r .table) n))
@@ -306,10 +307,10 @@ module _ (r : Raw) (ty : Typed r) (sd : isSound r ≡ true) (k : Call) (b : Bool
 
     pub recorded-put-is : (d : Record) (ms : List (List ℕ)) → step (meaning r) k ≡ apply (meaning r) b (staging ans (altered (meaning r .table) (recordAt (r .held) i) d) ms)
         → r .held .«staged_used» + length (frames ms) ≤ length (r .staged)
-        → called r k ≡ outcome (gave ans) (stagedMore (recordSet (r .held) i d) (length (frames ms))) (r .queue) (behind (r .held .«staged_used») (frames ms) (r .staged)) (r .sent)
+        → {su : ℕ} {st : List ℕ} → Put (r .held .«staged_used») (r .staged) (frames ms) su st
+        → called r k ≡ outcome (gave ans) (counted (recordSet (r .held) i d) su (r .held .«sent_used»)) (r .queue) st (r .sent)
     unfolding G.altered G.withPlaces R.meaning
-    recorded-put-is d ms e l =
-        control-is (altered (meaning r .table) (recordAt (r .held) i) d) ms e l (changed-places r ty sd n i h d) (same-rows r ty sd) (put-some (r .held .«staged_used») (r .staged) (frames ms))
+    recorded-put-is d ms e l = control-is (altered (meaning r .table) (recordAt (r .held) i) d) ms e l (changed-places r ty sd n i h d) (same-rows r ty sd)
 
     -- goes, and its place is free
     pub freed-is : step (meaning r) k ≡ apply (meaning r) b (quiet ans (removed (meaning r .table) (recordAt (r .held) i)))
@@ -319,7 +320,7 @@ module _ (r : Raw) (ty : Typed r) (sd : isSound r ≡ true) (k : Call) (b : Bool
 
     pub freed-put-is : (ms : List (List ℕ)) → step (meaning r) k ≡ apply (meaning r) b (staging ans (removed (meaning r .table) (recordAt (r .held) i)) ms)
         → r .held .«staged_used» + length (frames ms) ≤ length (r .staged)
-        → called r k ≡ outcome (gave ans) (stagedMore (placeFreed (r .held) i) (length (frames ms))) (r .queue) (behind (r .held .«staged_used») (frames ms) (r .staged)) (r .sent)
+        → {su : ℕ} {st : List ℕ} → Put (r .held .«staged_used») (r .staged) (frames ms) su st
+        → called r k ≡ outcome (gave ans) (counted (placeFreed (r .held) i) su (r .held .«sent_used»)) (r .queue) st (r .sent)
     unfolding G.removed G.withPlaces R.meaning
-    freed-put-is ms e l =
-        control-is (removed (meaning r .table) (recordAt (r .held) i)) ms e l (freed-places r ty sd n i h) (same-rows r ty sd) (put-some (r .held .«staged_used») (r .staged) (frames ms))
+    freed-put-is ms e l = control-is (removed (meaning r .table) (recordAt (r .held) i)) ms e l (freed-places r ty sd n i h) (same-rows r ty sd)

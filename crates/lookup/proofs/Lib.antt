@@ -4,3 +4,4 @@ pub mod Bridge
 pub mod Decided
 pub mod Branch
 pub mod Payload
+pub mod Framed

@@ -15,7 +15,7 @@ use Rattle.channel.specs.declared.Record.{Record}
 use Rattle.channel.specs.Wire.{eofMessage, closeMessage}
 use Rattle.channel.specs.State.{numbersInAll, numberOf, peerOf, Place, vacant, holds, Entry, Table, World, Found, nowhere, found, look, replace, isUsed, anyEntry}
 use Rattle.channel.specs.State as S
-use Rattle.channel.specs.Call.{Route, direct, Call, put, flush, flushAll, Result, complete, done, Answer, gave, refused}
+use Rattle.channel.specs.Call.{Route, direct, Call, put, flush, flushAll, Result, complete, done, Answer, gave}
 use Rattle.channel.specs.Change.{withPeerWindow, withMarks, withEntries, altered, removed}
 use Rattle.channel.specs.Change as G
 use Rattle.channel.specs.Decide.{Flushed, flushed, anyByte, Plan, none, Decision, go, refuse, quiet, load, flushOn, flushedWhole}
@@ -47,7 +47,7 @@ use Rattle.pending.specs.Plan.{chargedBy, planOf, Goes}
 use Rattle.pending.specs.All.{nearerBy, leastFrom, noneYet, atLeast, Rising, Passed, nextOf, TurnBy}
 use Rattle.pending.proofs.KeepLaws.{at}
 use Rattle.pending.proofs.FlushLaws.{ahead, ahead-cons, flushed-nil}
-use Rattle.pending.proofs.CallLaws.{base-of}
+use Rattle.pending.proofs.Rows.{base-of}
 use Rattle.pending.proofs.PlanLaws.{rows, flush-limit, flush-goes, closed-place, open-place}
 
 -- THE LOWEST NUMBER

@@ -3,9 +3,8 @@
 use Prim.Native.Nat.{ℕ, _+_, _-_, _^_, _≤_, _<_}
 use mathlib.Core.Path.{_≡_, refl, sym, ap, ap₂, _∙_}
 use mathlib.Core.Bool.{Bool, true, false, _&&_, not}
-use mathlib.Core.List.{List, _++_, append-assoc}
-use lib.ListN.{length, drop, set, replicate, length-append, replicate-append-replicate}
-use lib.Seq.{drop-append-seam}
+use mathlib.Core.List.{List, _++_}
+use lib.ListN.{length, set, length-append}
 use lib.Dec.{eqb}
 use native.Mathlib.Omega.{arith}
 use Rattle.laws.proofs.Tests.{by-test}
@@ -14,7 +13,7 @@ use Rattle.octets.proofs.Laws.{write-eq, write-append}
 use Rattle.channel.specs.declared.Record.{Record}
 use Rattle.channel.specs.declared.Table as T
 use Rattle.channel.specs.Wire.{frames}
-use Rattle.channel.specs.State.{mostEntries, numberOf, Entry, look, nowhere, queued}
+use Rattle.channel.specs.State.{numberOf, look, nowhere, queued}
 use Rattle.channel.specs.Call.{Route, direct, Call, put, flush, Answer, gave, refused}
 use Rattle.channel.specs.Call as Call
 use Rattle.channel.specs.Change as G
@@ -22,30 +21,26 @@ use Rattle.channel.specs.Decide.{Flushed, anyByte, Plan, Decision, go, flushOn}
 use Rattle.channel.specs.Decide as D
 use Rattle.channel.specs.Step.{goesStraight, toSent, toStaged, apply, step}
 use Rattle.channel.specs.Step as P
-use Rattle.channel.specs.Raw.{Raw, meaning, placesOf, pendingOf, zeroEntry, zeroRecord}
+use Rattle.channel.specs.Raw.{Raw, meaning, placesOf, zeroRecord}
 use Rattle.channel.specs.Raw as R
 use Rattle.channel.specs.Sound.{isSound}
 use Rattle.channel.specs.Called.{Typed, Outcome, called, outcome}
 use Rattle.channel.proofs.Wire.{frames-append}
-use Rattle.channel.proofs.Entries.{less-flushed, shrunk}
-use Rattle.channel.proofs.Written.{length-pending}
+use Rattle.channel.proofs.Entries.{less-flushed}
 use Rattle.channel.proofs.Promises.{sound-stays}
 use Rattle.lookup.specs.Held.{HeldAt, recordAt}
 use Rattle.lookup.specs.Update.{placed, filed, counted, stagedMore, sentMore}
 use Rattle.lookup.proofs.Limits.{limits}
 use Rattle.lookup.proofs.Decided.{by-load, none-known, held-known, straight-is}
-use Rattle.lookup.proofs.Bridge.{behind, Put, put-none, put-as, Places, changed-places, freed-places, Rows, same-rows, closed-rows}
+use Rattle.lookup.proofs.Bridge.{Put, put-none, put-as, Places, changed-places, freed-places}
 use Rattle.lookup.proofs.Branch.{HasRoom, sent, staged, refusing, lacking, gone}
-use Rattle.pending.specs.Keep.{Base, queueWith, entriesWith, tableWith}
+use Rattle.pending.specs.Keep.{queueWith, entriesWith, tableWith}
 use Rattle.pending.specs.declared.Size.{Size}
 use Rattle.pending.specs.Flush.{sizeOf}
 use Rattle.pending.proofs.Definition.{window-flushed}
+use Rattle.pending.proofs.Rows.{kept-rows}
 use Rattle.pending.specs.Plan.{entriesIn, flushedIn, resultOf, controlOf, chargedBy, settledBy, planOf, afterFlush, outSize, controlSize, Goes}
 use Rattle.pending.proofs.PlanLaws.{flush-limit, flush-goes, closed-place, open-place, settled-closed, settled-open, plan-last}
-
--- a sound state's entries over its queue
-pub base-of : (r : Raw) → Typed r → isSound r ≡ true → Base (r .held .entries) (r .held .«entry_count») (r .queue) (r .held .«queue_used»)
-base-of r ty sd = let l = limits r sd in record { places = ty .entries; few = l .few; fits = l .queueUsed; total = l .sum }
 
 -- a call on a sound state leaves it sound
 pub goes-by : (r : Raw) → Typed r → isSound r ≡ true → (k : Call) (o : Outcome) → o ≡ called r k → Goes r k o
@@ -102,50 +97,13 @@ module _ (r : Raw) (ty : Typed r) (sd : isSound r ≡ true) (route : Route) (n i
     unfolding R.meaning
     steps = decided b w (flush-goes (meaning r .table) C free)
 
-    less : (length (F .kept) ≤ r .held .«entry_count») × (length (queued (F .kept)) ≤ r .held .«queue_used»)
-    unfolding R.meaning
-    less =
-        let s = shrunk (numberOf C) (less-flushed C (C .«recipient_window_size») (entriesIn (r .held) (r .queue))) in
-        let q = same-rows r ty sd in
-        (omega (arith, s .count, q .count), omega (arith, s .bytes, q .used))
-
-    -- the entries behind those in use are zero
-    spare : drop (r .held .«entry_count») (r .held .entries) ≡ replicate (mostEntries - r .held .«entry_count») zeroEntry
-    spare =
-        let q = same-rows r ty sd in
-        let es = meaning r .table .entries in
-        let k : length (pendingOf es) ≡ r .held .«entry_count» = length-pending es ∙ q .count in
-        ap₂ (λ m l. drop m l) (sym k) (sym (q .entries))
-        ∙ drop-append-seam (pendingOf es) (replicate (mostEntries - length es) zeroEntry)
-        ∙ ap (λ m. replicate (mostEntries - m) zeroEntry) (q .count)
-
-    rows-after : Rows r (F .kept) (entriesWith (F .kept) (r .held .«entry_count») (r .held .entries)) (length (F .kept)) (length (queued (F .kept))) (queueWith (F .kept) (r .held .«queue_used») (r .queue))
-    unfolding entriesWith queueWith
-    rows-after =
-        let ks : List Entry = F .kept in
-        let c : ℕ = r .held .«entry_count» in
-        let l = less in
-        let m : mostEntries - length ks ≡ (c - length ks) + (mostEntries - c) = omega (arith, limits r sd .few) in
-        record {
-          entries =
-              ap (λ x. pendingOf ks ++ replicate x zeroEntry) m
-              ∙ ap (λ x. pendingOf ks ++ x) (sym (replicate-append-replicate (c - length ks) (mostEntries - c) zeroEntry))
-              ∙ sym (append-assoc (pendingOf ks) (replicate (c - length ks) zeroEntry) (replicate (mostEntries - c) zeroEntry))
-              ∙ ap (λ x. (pendingOf ks ++ replicate (c - length ks) zeroEntry) ++ x) (sym spare);
-          count = refl;
-          used = refl;
-          queue =
-              closed-rows r ks (l .1) .queue
-              ∙ sym (append-assoc (queued ks) (replicate (r .held .«queue_used» - length (queued ks)) 0) (drop (r .held .«queue_used») (r .queue)));
-        }
-
     -- whatever the buffers come to
     after : HasRoom r b plan → {su : ℕ} {st : List ℕ} → Put (r .held .«staged_used») (r .staged) (frames (toStaged b plan)) su st
         → {se : ℕ} {so : List ℕ} → Put (r .held .«sent_used») (r .sent) (toSent b plan) se so
         → called r K ≡ outcome (gave (resultOf C (F .wrote) (F .all))) (counted (afterFlush (r .held) (r .queue) i C) su se) (queueWith (F .kept) (r .held .«queue_used») (r .queue)) st so
     unfolding planOf G.withEntries R.meaning tableWith
     after m {su} {st} ps {se} {so} qs =
-        let rs = rows-after in
+        let rs = kept-rows r ty sd (less-flushed C (C .«recipient_window_size») (entriesIn (r .held) (r .queue))) in
         let out : T.Table → Outcome = λ x. outcome (gave (resultOf C (F .wrote) (F .all)))
         (counted (filed x (entriesWith (F .kept) (r .held .«entry_count») (r .held .entries)) (length (F .kept)) (length (queued (F .kept)))) su se)
         (queueWith (F .kept) (r .held .«queue_used») (r .queue)) st so in

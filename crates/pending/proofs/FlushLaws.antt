@@ -1,7 +1,7 @@
 -- Laws of what one channel's flush frames: one turn of the loops over the entries, and their ends.
 -- Assumes nothing.
 use mathlib.Core.Path.{_≡_, refl, ap, sym, _∙_}
-use mathlib.Core.Bool.{Bool, true, false, not, cond}
+use mathlib.Core.Bool.{Bool, true, false, cond}
 use mathlib.Core.List.{List, [], _∷_, _++_}
 use Prim.Native.Nat.{ℕ, zero, suc, min, _+_, _-_, _*_, _≤_, _<_}
 use native.Mathlib.Nat.{add-assoc, add-zero, zero-add, sub-zero, min-eq-left, min-eq-right, le-of-lt}
@@ -14,7 +14,6 @@ use Rattle.laws.proofs.Tests.{by-test, shut}
 use Rattle.laws.proofs.Lists.{next}
 use Rattle.octets.specs.Buf.{write}
 use Rattle.octets.proofs.Laws.{write-nil, write-append, length-write}
-use Rattle.frames.specs.Frame.{over}
 use Rattle.frames.proofs.Packets.{runSize, packets-nil, heads-le}
 use Rattle.frames.proofs.Packets as P
 use Rattle.channel.specs.declared.Kind.{Kind}

@@ -23,7 +23,6 @@ use Rattle.channel.specs.Decide.{Flushed, flushed, anyByte, go, refuse, flushOn
 use Rattle.channel.specs.Decide as D
 use Rattle.channel.specs.Raw.{entriesOf, pendingOf, zeroRecord}
 use Rattle.channel.specs.Sound.{sumLeft}
-use Rattle.channel.specs.Called.{called}
 use Rattle.channel.proofs.Faithful.{pending-back, queued-back}
 use Rattle.lookup.specs.Update.{placed, filed, recordSet, placeFreed}
 use Rattle.lookup.proofs.Decided.{if-true, if-false}

@@ -1,7 +1,7 @@
 -- The receive window and the queries over the code's state: a law for each way out.
 -- Assumes nothing.
 use Prim.Native.Nat.{ℕ, _+_, _-_, _/_, _≤_, _<_}
-use mathlib.Core.Path.{_≡_, sym, ap, ap₂, _∙_}
+use mathlib.Core.Path.{_≡_, sym, ap, _∙_}
 use mathlib.Core.Bool.{Bool, true, false}
 use mathlib.Core.List.{List, [], _∷_}
 use lib.ListN.{length}
@@ -9,7 +9,6 @@ use lib.Dec.{ltb}
 use native.Mathlib.Omega.{arith}
 use borrow.Author.Tests.{lt-ltb, le-ltb}
 use Rattle.octets.specs.Buf.{write}
-use Rattle.octets.proofs.Laws.{write-eq}
 use Rattle.channel.specs.declared.Record.{Record}
 use Rattle.channel.specs.declared.Refusal.{Refusal}
 use Rattle.channel.specs.declared.Refusal.the-variants as Refusal
@@ -21,12 +20,12 @@ use Rattle.channel.specs.Decide.{quiet, staging, serves, charged, adjustOn, win
 use Rattle.channel.specs.Decide as I
 use Rattle.channel.specs.Raw.{Raw, placesOf, entriesOf, meaning}
 use Rattle.channel.specs.Sound.{isSound}
-use Rattle.channel.specs.Called.{Typed, Outcome, called, outcome}
+use Rattle.channel.specs.Called.{Typed, called, outcome}
 use Rattle.channel.specs.Answers.{refusal}
 use Rattle.channel.specs.Answers as A
 use Rattle.lookup.specs.Held.{HeldAt, recordAt}
 use Rattle.lookup.specs.Update.{recordSet, stagedMore}
-use Rattle.lookup.proofs.Bridge.{behind}
+use Rattle.lookup.proofs.Framed.{put-frame}
 use Rattle.lookup.proofs.Decided.{if-true, if-false, serves-is, has-is, none-look, none-passes, held-look, held-fails, held-passes, by-act}
 use Rattle.lookup.proofs.Branch as B
 use Rattle.frames.proofs.Packets.{frames-one, length-adjust}
@@ -114,10 +113,7 @@ module _ (r : Raw) (ty : Typed r) (sd : isSound r ≡ true) (number n target : �
         (write (r .held .«staged_used») (frame (adjustMessage (peerOf (recordAt (r .held) i)) (target - window))) (r .staged)) (r .sent)
     filled f l g =
         let c = recordAt (r .held) i in
-        let at = r .held .«staged_used» in
         let one : length (frame message) ≡ 13 = length-adjust (peerOf c) (target - window) in
         let size : length (frames (message ∷ [])) ≡ 13 = ap length (frames-one message) ∙ one in
         B.recorded-put-is r ty sd (act (adjust number n target)) false (adjusted true) number i h (withWindow c target) (message ∷ [])
-        (by-act r (adjust number n target) (on-filling f l)) (omega arith)
-        ∙ ap₂ {C = Outcome} (λ x y. outcome (gave (adjusted true)) (stagedMore (recordSet (r .held) i (withWindow c target)) x) (r .queue) y (r .sent)) size
-        (ap (λ bs. behind at bs (r .staged)) (frames-one message) ∙ sym (write-eq at (frame message) (r .staged) (omega arith)))
+        (by-act r (adjust number n target) (on-filling f l)) (omega arith) (put-frame (r .held .«staged_used») (r .staged) message one g)
