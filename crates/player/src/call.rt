@@ -18,10 +18,7 @@ use crate::fields::is_switch;
 use crate::fields::u32_at;
 use channel::ChannelId;
 use channel::PeerNumber;
-use channel::Refusal;
 use channel::Table;
-use channel::Taken;
-use incoming::Arrived;
 use numbers::PeerOpened;
 use pending::AllFlushing;
 use pending::Flushing;
@@ -375,20 +372,6 @@ fn drain(rest: &[u8], t: Table, queue: &[u8], staged: &[u8], sent: &mut [u8]) ->
     }
 }
 
-// An incoming payload: the call itself is not there yet, and every payload is refused as malformed.
-fn take_in(
-    t: Table,
-    _queue: &mut [u8],
-    _staged: &mut [u8],
-    _sent: &[u8],
-    _payload: &[u8],
-) -> Arrived {
-    Arrived {
-        answer: Taken::Refused(Refusal::Malformed),
-        table: t,
-    }
-}
-
 // 12: an incoming payload.
 fn arrive(rest: &[u8], t: Table, queue: &mut [u8], staged: &mut [u8], sent: &[u8]) -> Played
     ensures { λ r. ⌜ r .size ≤ length (now (rest .entry)) ⌝ }
@@ -401,7 +384,7 @@ fn arrive(rest: &[u8], t: Table, queue: &mut [u8], staged: &mut [u8], sent: &[u8
         return no_call(t);
     }
     let end = 5 + n;
-    let o = take_in(t, queue, staged, sent, &rest[5..end]);
+    let o = incoming::incoming(t, queue, staged, sent, &rest[5..end]);
     let answer = o.answer;
     let table = o.table;
     Played {
