@@ -1,21 +1,22 @@
 // One call of a script: its fields are read, the call is made, and its answer is turned into numbers. Each function here takes what is left
 // of the script, from the call's own byte on.
-use crate::answer::Answer;
-use crate::answer::done;
-use crate::answer::of_acted;
-use crate::answer::of_all;
-use crate::answer::of_charged;
-use crate::answer::of_flush;
-use crate::answer::of_moved;
-use crate::answer::of_pending;
-use crate::answer::of_picked;
-use crate::answer::of_sent;
-use crate::answer::of_taken;
-use crate::answer::of_window;
 use crate::fields::byte_at;
 use crate::fields::is_on;
 use crate::fields::is_switch;
 use crate::fields::u32_at;
+use crate::lent::damage_one;
+use answers::Answer;
+use answers::done;
+use answers::of_acted;
+use answers::of_all;
+use answers::of_charged;
+use answers::of_flush;
+use answers::of_moved;
+use answers::of_pending;
+use answers::of_picked;
+use answers::of_sent;
+use answers::of_taken;
+use answers::of_window;
 use channel::ChannelId;
 use channel::PeerNumber;
 use channel::Table;
@@ -443,13 +444,6 @@ fn damage_counts(rest: &[u8], t: Table) -> Played
     }
 }
 
-// A byte of a buffer is set, if it is within.
-fn set_byte(buf: &mut [u8], at: usize, x: u8) {
-    if at < buf.len() {
-        buf[at] = x;
-    }
-}
-
 // 16: damage to a byte of a lent buffer. A number that names none of the three damages nothing.
 fn damage_byte(
     rest: &[u8],
@@ -471,22 +465,6 @@ fn damage_byte(
         answer: done(),
         table: t,
         size: 7,
-    }
-}
-
-// The byte, in the buffer that is meant.
-fn damage_one(which: u8, queue: &mut [u8], staged: &mut [u8], sent: &mut [u8], at: usize, x: u8) {
-    match which {
-        0 => {
-            set_byte(queue, at, x);
-        }
-        1 => {
-            set_byte(staged, at, x);
-        }
-        2 => {
-            set_byte(sent, at, x);
-        }
-        _ => {}
     }
 }
 

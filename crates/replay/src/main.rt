@@ -3,20 +3,12 @@ use channel::Table;
 use libc::STDIN_FILENO;
 use libc::STDOUT_FILENO;
 use player::fill;
-use player::flush;
 use player::play;
-use player::put;
-use player::put_number;
-use player::show_answer;
-use player::show_state;
 use player::u32_at;
-
-// The line for what is no call, with its place in the script.
-fn show_no_call(out: &mut [u8; 16384], start: usize, place: usize) -> usize {
-    let mut at = put(out, start, b'!');
-    at = put_number(out, at, place as u64);
-    put(out, at, b'\n')
-}
+use shown::flush;
+use shown::show_answer;
+use shown::show_no_call;
+use shown::show_state;
 
 // Every call up to the script's end, or up to what is no call. Answers the count of bytes that are still to be written.
 fn play_all(

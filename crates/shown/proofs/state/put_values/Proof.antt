@@ -1,9 +1,9 @@
--- `player::state::put_values` ends: its index runs up to 7.
+-- `shown::state::put_values` ends: its index runs up to 7.
 -- Assumes nothing.
 use Prim.Native.Nat.{_-_, _≤_}
 use borrow.Author.Needs.{needs}
-use Rattle.player.proofs.state.put_values.Statement.{statement}
-use Rattle.player.proofs.state.put_values.Tie as tie
+use Rattle.shown.proofs.state.put_values.Statement.{statement}
+use Rattle.shown.proofs.state.put_values.Tie as tie
 
 abbrev Inv-loop : tie.InvT-loop
 Inv-loop out₀ start n values at₀ i₀ out at i = i ≤ 7

@@ -1,9 +1,9 @@
--- `player::state::show_records` ends: its index runs up to 32.
+-- `shown::state::show_records` ends: its index runs up to 32.
 -- Assumes nothing.
 use Prim.Native.Nat.{_-_, _≤_}
 use borrow.Author.Needs.{needs}
-use Rattle.player.proofs.state.show_records.Statement.{statement}
-use Rattle.player.proofs.state.show_records.Tie as tie
+use Rattle.shown.proofs.state.show_records.Statement.{statement}
+use Rattle.shown.proofs.state.show_records.Tie as tie
 
 abbrev Inv-loop : tie.InvT-loop
 Inv-loop out₀ start used records at₀ i₀ out at i = i ≤ 32

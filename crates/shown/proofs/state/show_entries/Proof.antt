@@ -1,9 +1,9 @@
--- `player::state::show_entries` ends: its index runs up to 64.
+-- `shown::state::show_entries` ends: its index runs up to 64.
 -- Assumes nothing.
 use Prim.Native.Nat.{_-_, _≤_}
 use borrow.Author.Needs.{needs}
-use Rattle.player.proofs.state.show_entries.Statement.{statement}
-use Rattle.player.proofs.state.show_entries.Tie as tie
+use Rattle.shown.proofs.state.show_entries.Statement.{statement}
+use Rattle.shown.proofs.state.show_entries.Tie as tie
 
 abbrev Inv-loop : tie.InvT-loop
 Inv-loop out₀ start count entries at₀ i₀ out at i = i ≤ 64

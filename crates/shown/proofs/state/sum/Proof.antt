@@ -1,10 +1,10 @@
--- `player::state::sum` ends, and its index stays within the buffer.
+-- `shown::state::sum` ends, and its index stays within the buffer.
 -- Assumes nothing.
 use Prim.Native.Nat.{_-_, _≤_}
 use lib.ListN.{length}
 use borrow.Author.Needs.{needs}
-use Rattle.player.proofs.state.sum.Statement.{statement}
-use Rattle.player.proofs.state.sum.Tie as tie
+use Rattle.shown.proofs.state.sum.Statement.{statement}
+use Rattle.shown.proofs.state.sum.Tie as tie
 
 abbrev Inv-loop : tie.InvT-loop
 Inv-loop buf h₀ i₀ i-end h i = (i ≤ i-end) × (i-end ≤ length buf)

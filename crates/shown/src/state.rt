@@ -1,29 +1,16 @@
-// What is shown after each call: its answer, then the whole state.
-use crate::answer::Answer;
-use crate::answer::digit;
+// The lines after each call: its answer, then the whole state.
 use crate::text::put;
 use crate::text::put_hex;
 use crate::text::put_number;
+use answers::Answer;
+use answers::digit;
 use channel::Entry;
 use channel::Kind;
 use channel::Record;
 use channel::Table;
 
-// The byte that a lent buffer starts with at a place.
-fn pattern(i: usize) -> u8 {
-    let k = i % 251;
-    ((7 * k + 13) % 251) as u8
-}
-
-// Every byte of a lent buffer, before the first call.
-pub fn fill(buf: &mut [u8]) {
-    for i in 0..buf.len() {
-        buf[i] = pattern(i);
-    }
-}
-
 // The end of a line.
-fn put_line(out: &mut [u8; 16384], at: usize) -> usize {
+pub fn put_line(out: &mut [u8; 16384], at: usize) -> usize {
     put(out, at, b'\n')
 }
 
@@ -38,6 +25,13 @@ fn put_values(out: &mut [u8; 16384], start: usize, values: [u64; 7], n: usize) -
     at
 }
 
+// The line for what is no call, with its place in the script.
+pub fn show_no_call(out: &mut [u8; 16384], start: usize, place: usize) -> usize {
+    let mut at = put(out, start, b'!');
+    at = put_number(out, at, place as u64);
+    put_line(out, at)
+}
+
 // The line of a call's answer.
 pub fn show_answer(out: &mut [u8; 16384], start: usize, a: Answer) -> usize {
     let mut at = put(out, start, b'=');
@@ -47,13 +41,11 @@ pub fn show_answer(out: &mut [u8; 16384], start: usize, a: Answer) -> usize {
     put_line(out, at)
 }
 
-// The line of a record: its place and its ten fields.
-fn show_record(out: &mut [u8; 16384], start: usize, place: usize, r: Record) -> usize {
+// The ten fields of a record.
+pub fn put_fields(out: &mut [u8; 16384], start: usize, r: Record) -> usize {
     let peer = r.recipient_channel;
     let number = r.sender_channel;
-    let mut at = put(out, start, b'p');
-    at = put_number(out, at, place as u64);
-    at = put_number(out, at, peer.0 as u64);
+    let mut at = put_number(out, start, peer.0 as u64);
     at = put_number(out, at, number.0 as u64);
     at = put_number(out, at, r.recipient_window_size as u64);
     at = put_number(out, at, r.sender_window_size as u64);
@@ -62,12 +54,19 @@ fn show_record(out: &mut [u8; 16384], start: usize, place: usize, r: Record) -> 
     at = put_number(out, at, digit(r.confirmed));
     at = put_number(out, at, digit(r.wants_reply));
     at = put_number(out, at, digit(r.pending_eof));
-    at = put_number(out, at, digit(r.pending_close));
+    put_number(out, at, digit(r.pending_close))
+}
+
+// The line of a record: its place and its fields.
+fn show_record(out: &mut [u8; 16384], start: usize, place: usize, r: Record) -> usize {
+    let mut at = put(out, start, b'p');
+    at = put_number(out, at, place as u64);
+    at = put_fields(out, at, r);
     put_line(out, at)
 }
 
 // Whether a place is marked as used.
-fn is_used(used: u32, i: usize) -> bool {
+pub fn is_used(used: u32, i: usize) -> bool {
     (i < 32) && ((used >> i) % 2 == 1)
 }
 
@@ -83,7 +82,7 @@ fn show_records(out: &mut [u8; 16384], start: usize, used: u32, records: [Record
 }
 
 // The kind as a number, and the code, which is 0 for plain data.
-fn put_kind(out: &mut [u8; 16384], start: usize, kind: Kind) -> usize {
+pub fn put_kind(out: &mut [u8; 16384], start: usize, kind: Kind) -> usize {
     match kind {
         Kind::Plain => {
             let at = put_number(out, start, 0);

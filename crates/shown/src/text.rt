@@ -36,7 +36,7 @@ pub fn put_number(out: &mut [u8; 16384], at: usize, n: u64) -> usize {
 }
 
 // Bytes as they are.
-fn put_bytes(out: &mut [u8; 16384], start: usize, bytes: &[u8]) -> usize {
+pub fn put_bytes(out: &mut [u8; 16384], start: usize, bytes: &[u8]) -> usize {
     let mut at = start;
     for i in 0..bytes.len() {
         at = put(out, at, bytes[i]);

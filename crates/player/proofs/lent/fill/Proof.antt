@@ -1,11 +1,11 @@
--- `player::state::fill` ends, and its index stays within the buffer.
+-- `player::lent::fill` ends, and its index stays within the buffer.
 -- Assumes nothing.
 use mathlib.Core.Path.{_≡_}
 use Prim.Native.Nat.{_-_, _≤_}
 use lib.ListN.{length}
 use borrow.Author.Needs.{needs}
-use Rattle.player.proofs.state.fill.Statement.{statement}
-use Rattle.player.proofs.state.fill.Tie as tie
+use Rattle.player.proofs.lent.fill.Statement.{statement}
+use Rattle.player.proofs.lent.fill.Tie as tie
 
 abbrev Inv-loop : tie.InvT-loop
 Inv-loop buf₀ i₀ i-end buf i = (i ≤ i-end) × (i-end ≤ length buf) × (length buf ≡ length buf₀)

@@ -1,4 +1,4 @@
-// What a call answers, as numbers: the refusal's, or 0, and the values after it.
+// What a call answers, as numbers: the refusal's, or 0, and the values after it. docs/REPLAY.md has them for each call.
 use channel::Acted;
 use channel::Adjust;
 use channel::AllFlushed;
