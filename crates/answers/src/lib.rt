@@ -79,6 +79,7 @@ pub fn digit(b: bool) -> u64 {
     if b { 1 } else { 0 }
 }
 
+// The number that was picked.
 pub fn of_picked(p: Picked) -> Answer {
     match p {
         Picked::Number(n) => one(n.0 as u64),
@@ -86,6 +87,7 @@ pub fn of_picked(p: Picked) -> Answer {
     }
 }
 
+// No value.
 pub fn of_acted(a: Acted) -> Answer {
     match a {
         Acted::Done => done(),
@@ -93,6 +95,7 @@ pub fn of_acted(a: Acted) -> Answer {
     }
 }
 
+// The bytes framed now.
 pub fn of_sent(s: Sent) -> Answer {
     match s {
         Sent::Framed(n) => one(n as u64),
@@ -100,6 +103,7 @@ pub fn of_sent(s: Sent) -> Answer {
     }
 }
 
+// Whether an adjust was staged.
 pub fn of_charged(c: Charged) -> Answer {
     match c {
         Charged::Adjusted(b) => one(digit(b)),
@@ -144,6 +148,7 @@ pub fn of_moved(m: Moved) -> Answer {
     }
 }
 
+// The window.
 pub fn of_window(w: WindowSize) -> Answer {
     match w {
         WindowSize::Window(n) => one(n as u64),
@@ -151,6 +156,7 @@ pub fn of_window(w: WindowSize) -> Answer {
     }
 }
 
+// Whether data is pending.
 pub fn of_pending(p: PendingData) -> Answer {
     match p {
         PendingData::Pending(b) => one(digit(b)),
@@ -238,6 +244,7 @@ fn of_message(m: Message) -> Answer {
     }
 }
 
+// The message, as its type and its fields.
 pub fn of_taken(t: Taken) -> Answer {
     match t {
         Taken::Took(m) => of_message(m),

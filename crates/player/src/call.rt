@@ -20,7 +20,6 @@ use answers::of_window;
 use channel::ChannelId;
 use channel::PeerNumber;
 use channel::Table;
-use numbers::PeerOpened;
 use pending::AllFlushing;
 use pending::Flushing;
 use sending::SentData;
@@ -88,7 +87,7 @@ fn open_for_peer(rest: &[u8], t: Table, queue: &[u8], staged: &[u8], sent: &[u8]
     if rest.len() < 25 {
         return no_call(t);
     }
-    let o: PeerOpened = numbers::open_for_peer(
+    let o = numbers::open_for_peer(
         t,
         queue,
         staged,

@@ -83,6 +83,7 @@ fn start(script: &[u8]) {
     lend(script, a, b, c);
 }
 
+// The script is what standard input has, up to 262,144 bytes.
 fn main() {
     let mut script = [0u8; 262144];
     let n = io::read_full(STDIN_FILENO, &mut script);

@@ -128,6 +128,7 @@ fn play_file(file: &[u8]) {
     }
 }
 
+// The file is what standard input has, up to 262,144 bytes.
 fn main() {
     let mut file = [0u8; 262144];
     let n = io::read_full(STDIN_FILENO, &mut file);
