@@ -33,9 +33,9 @@ use Rattle.lookup.proofs.Decided.{confirmed-is, none-passes, held-fails, held-p
 use Rattle.lookup.proofs.Bridge.{freed-places}
 use Rattle.lookup.proofs.Framed.{put-frame}
 use Rattle.lookup.proofs.Branch.{control-is, full}
-use Rattle.pending.specs.Keep.{queueWith, tableWith}
-use Rattle.pending.specs.Plan.{entriesIn}
-use Rattle.pending.proofs.Rows.{kept-rows}
+use Rattle.passes.specs.Keep.{queueWith, tableWith}
+use Rattle.passes.specs.Pass.{entriesIn}
+use Rattle.passes.proofs.Rows.{kept-rows}
 use Rattle.incoming.specs.Takes.{TakesWith, Takes}
 use Rattle.incoming.proofs.Taking.{refuses}
 

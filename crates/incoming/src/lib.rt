@@ -17,7 +17,7 @@ use lookup::Found;
 use lookup::find;
 use lookup::free_place;
 use lookup::with_record;
-use pending::drop_entries;
+use passes::drop_entries;
 use reading::Read;
 use reading::read_message;
 use soundness::sound;
@@ -35,8 +35,8 @@ ghost use Rattle.channel.specs.Change.{confirm};
 ghost use Rattle.channel.specs.Called.{lent, outcome, called};
 ghost use Rattle.channel.specs.Answers.{taken};
 ghost use Rattle.lookup.specs.Update.{placeFreed, stagedMore};
-ghost use Rattle.pending.specs.Keep.{Base, queueWith, tableWith};
-ghost use Rattle.pending.specs.Plan.{entriesIn};
+ghost use Rattle.passes.specs.Keep.{Base, queueWith, tableWith};
+ghost use Rattle.passes.specs.Pass.{entriesIn};
 ghost use Rattle.incoming.specs.Takes.{Takes, TakesWith, Hears, creditTaken, creditTable};
 
 // Whether a channel can take a message, or why not.

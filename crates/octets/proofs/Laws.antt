@@ -103,7 +103,8 @@ write-same at gap n l g h =
 
 -- A GAP CLOSED
 
-drop-take : (m n : ℕ) (l : List ℕ) → drop m (take (m + n) l) ≡ take n (drop m l)
+-- the part of a front
+pub drop-take : (m n : ℕ) (l : List ℕ) → drop m (take (m + n) l) ≡ take n (drop m l)
 drop-take zero n l = rw (zero-add n)
 drop-take (suc m) n [] = rw (suc-add m n, take-nil n)
 drop-take (suc m) n (x ∷ l) = rw (suc-add m n) (drop-take m n l)

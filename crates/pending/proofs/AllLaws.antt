@@ -26,7 +26,7 @@ use Rattle.channel.specs.Raw.{Raw, meaning, written, pendingOf}
 use Rattle.channel.specs.Raw as R
 use Rattle.channel.specs.Sound.{isSound, isMarked}
 use Rattle.channel.specs.Called.{Typed, Outcome, called}
-use Rattle.channel.proofs.Lookup.{Apart, For, look-number, look-unused, look-nowhere, look-other}
+use Rattle.channel.proofs.Lookup.{Apart, look-number, look-unused, look-nowhere, look-other}
 use Rattle.channel.proofs.Lookup as L
 use Rattle.channel.proofs.Entries.{own, some, any-own, flushed-skip}
 use Rattle.channel.proofs.Entries as N
@@ -45,10 +45,11 @@ use Rattle.pending.specs.declared.Next.{Next}
 use Rattle.pending.specs.declared.Next.the-variants.{Done}
 use Rattle.pending.specs.Plan.{chargedBy, planOf, Goes}
 use Rattle.pending.specs.All.{nearerBy, leastFrom, noneYet, atLeast, Rising, Passed, nextOf, TurnBy}
-use Rattle.pending.proofs.KeepLaws.{at}
-use Rattle.pending.proofs.FlushLaws.{ahead, ahead-cons, flushed-nil}
-use Rattle.pending.proofs.Rows.{base-of}
-use Rattle.pending.proofs.PlanLaws.{rows, flush-limit, flush-goes, closed-place, open-place}
+use Rattle.passes.proofs.KeepLaws.{at}
+use Rattle.passes.proofs.FlushLaws.{ahead, ahead-cons, flushed-nil}
+use Rattle.passes.proofs.Rows.{base-of}
+use Rattle.passes.proofs.PassLaws.{rows}
+use Rattle.pending.proofs.PlanLaws.{flush-limit, flush-goes, closed-place, open-place}
 
 -- THE LOWEST NUMBER
 

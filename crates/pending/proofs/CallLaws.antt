@@ -33,23 +33,23 @@ use Rattle.lookup.specs.Update.{placed, filed, counted, stagedMore, sentMore}
 use Rattle.lookup.proofs.Limits.{limits}
 use Rattle.lookup.proofs.Decided.{by-load, none-known, held-known, straight-is}
 use Rattle.lookup.proofs.Bridge.{Put, put-none, put-as, Places, changed-places, freed-places}
+use Rattle.lookup.proofs.Framed.{put-written}
 use Rattle.lookup.proofs.Branch.{HasRoom, sent, staged, refusing, lacking, gone}
-use Rattle.pending.specs.Keep.{queueWith, entriesWith, tableWith}
-use Rattle.pending.specs.declared.Size.{Size}
-use Rattle.pending.specs.Flush.{sizeOf}
-use Rattle.pending.proofs.Definition.{window-flushed}
-use Rattle.pending.proofs.Rows.{kept-rows}
-use Rattle.pending.specs.Plan.{entriesIn, flushedIn, resultOf, controlOf, chargedBy, settledBy, planOf, afterFlush, outSize, controlSize, Goes}
+use Rattle.passes.specs.declared.Size.{Size}
+use Rattle.passes.specs.Keep.{queueWith, entriesWith, tableWith}
+use Rattle.passes.specs.Keep as Keep
+use Rattle.passes.specs.Flush.{sizeOf}
+use Rattle.passes.specs.Pass.{entriesIn, flushedIn}
+use Rattle.passes.proofs.Definition.{window-flushed}
+use Rattle.passes.proofs.Rows.{kept-rows}
+use Rattle.pending.specs.Plan.{resultOf, controlOf, chargedBy, settledBy, planOf, afterFlush, outSize, controlSize, Goes}
 use Rattle.pending.proofs.PlanLaws.{flush-limit, flush-goes, closed-place, open-place, settled-closed, settled-open, plan-last}
 
 -- a call on a sound state leaves it sound
 pub goes-by : (r : Raw) → Typed r → isSound r ≡ true → (k : Call) (o : Outcome) → o ≡ called r k → Goes r k o
 goes-by r ty sd k o e = record { is = e; typed = ty; sound = ap (λ x. isSound (x .state)) e ∙ sound-stays r ty k ∙ sd }
 
--- bytes written behind a buffer's used part
-written-as : (n : ℕ) (l bs : List ℕ) → n + length bs ≤ length l → Put n l bs (n + length bs) (write n bs l)
-written-as n l bs h = record { count = refl; bytes = sym (write-eq n bs l h) }
-
+-- two runs of bytes, one behind the other
 written-two : (n : ℕ) (l xs ys : List ℕ) → n + (length xs + length ys) ≤ length l
     → Put n l (xs ++ ys) (n + (length xs + length ys)) (write (n + length xs) ys (write n xs l))
 written-two n l xs ys h =
@@ -101,7 +101,7 @@ module _ (r : Raw) (ty : Typed r) (sd : isSound r ≡ true) (route : Route) (n i
     after : HasRoom r b plan → {su : ℕ} {st : List ℕ} → Put (r .held .«staged_used») (r .staged) (frames (toStaged b plan)) su st
         → {se : ℕ} {so : List ℕ} → Put (r .held .«sent_used») (r .sent) (toSent b plan) se so
         → called r K ≡ outcome (gave (resultOf C (F .wrote) (F .all))) (counted (afterFlush (r .held) (r .queue) i C) su se) (queueWith (F .kept) (r .held .«queue_used») (r .queue)) st so
-    unfolding planOf G.withEntries R.meaning tableWith
+    unfolding planOf G.withEntries R.meaning Keep.tableWith
     after m {su} {st} ps {se} {so} qs =
         let rs = kept-rows r ty sd (less-flushed C (C .«recipient_window_size») (entriesIn (r .held) (r .queue))) in
         let out : T.Table → Outcome = λ x. outcome (gave (resultOf C (F .wrote) (F .all)))
@@ -137,7 +137,7 @@ module _ (r : Raw) (ty : Typed r) (sd : isSound r ≡ true) (route : Route) (n i
         (queueWith (F .kept) (r .held .«queue_used») (r .queue))
         (write (r .held .«staged_used» + outSize (r .held) (r .queue) C) (frames (controlOf C (F .all))) (write (r .held .«staged_used») (frames (F .out)) (r .staged)))
         (r .sent)
-    unfolding planOf P.toStaged P.toSent tableWith
+    unfolding planOf P.toStaged P.toSent Keep.tableWith
     staged-is l =
         after false w free
         (record { sent = omega (arith, limits r sd .sentUsed); staged = omega (arith, staged-size); queue = tt })
@@ -162,12 +162,12 @@ module _ (r : Raw) (ty : Typed r) (sd : isSound r ≡ true) (route : Route) (n i
         (queueWith (F .kept) (r .held .«queue_used») (r .queue))
         (write (r .held .«staged_used») (frames (controlOf C (F .all))) (r .staged))
         (write (r .held .«sent_used») (frames (F .out)) (r .sent))
-    unfolding planOf P.toStaged P.toSent tableWith
+    unfolding planOf P.toStaged P.toSent Keep.tableWith
     sent-is l m =
         after true w free
         (record { sent = l; staged = m; queue = tt })
-        (written-as (r .held .«staged_used») (r .staged) (frames (controlOf C (F .all))) m)
-        (written-as (r .held .«sent_used») (r .sent) (frames (F .out)) l)
+        (put-written (r .held .«staged_used») (r .staged) (frames (controlOf C (F .all))) m)
+        (put-written (r .held .«sent_used») (r .sent) (frames (F .out)) l)
 
 -- THE ROUTES
 
@@ -210,7 +210,7 @@ module _ (t : T.Table) (q : List ℕ) (i : ℕ) (c : Record) (s : Size) (z : s �
   -- the table after the carry-out and the record's place
   module _ (u v : T.Table) (eu : u ≡ tableWith (E₁ .kept) t) where
     pub same-word : u .used ≡ t .used
-    unfolding tableWith
+    unfolding Keep.tableWith
     same-word = ap (λ x. x .used) eu
 
     module _ (ev : v ≡ settledBy u i c (c .«recipient_window_size» - s .wrote) (s .all)) where
@@ -221,11 +221,11 @@ module _ (t : T.Table) (q : List ℕ) (i : ℕ) (c : Record) (s : Size) (z : s �
           ∙ ap₂ (λ w b. settledBy (tableWith (E₁ .kept) t) i c w b) window-is (ap (λ x. x .all) z)
 
       pub same-staged : v .«staged_used» ≡ t .«staged_used»
-      unfolding tableWith
+      unfolding Keep.tableWith
       same-staged = ap (λ x. x .«staged_used») settled-is
 
       pub same-sent : v .«sent_used» ≡ t .«sent_used»
-      unfolding tableWith
+      unfolding Keep.tableWith
       same-sent = ap (λ x. x .«sent_used») settled-is
 
 -- the code's refusal of a state, as an outcome

@@ -1,7 +1,3 @@
-pub mod KeepLaws
-pub mod FlushLaws
-pub mod Definition
-pub mod Rows
 pub mod PlanLaws
 pub mod CallLaws
 pub mod AllLaws

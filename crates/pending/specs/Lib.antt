@@ -1,4 +1,2 @@
-pub mod Keep
-pub mod Flush
 pub mod Plan
 pub mod All

@@ -1,37 +1,27 @@
 -- The plan of one channel's flush, in the parts that the code carries out: the answer, the record after, and the marks' messages.
 -- Assumes nothing.
-use Prim.Native.Nat.{ℕ, _+_, _-_, _*_, _^_, _≤_, _<_}
+use Prim.Native.Nat.{ℕ, _+_, _-_, _^_, _<_}
 use mathlib.Core.Path.{_≡_}
 use mathlib.Core.Bool.{Bool, true, false, _&&_, not, cond}
 use mathlib.Core.List.{List, [], _∷_, _++_}
 use lib.ListN.{length, take, set}
-use lib.Dec.{eqb}
 use Rattle.channel.specs.declared.Record.{Record}
 use Rattle.channel.specs.declared.Table as D
 use Rattle.channel.specs.Wire.{frames, eofMessage, closeMessage}
-use Rattle.channel.specs.State.{placeCount, mostBytes, Entry, Table, numberOf, peerOf}
+use Rattle.channel.specs.State.{placeCount, Table, peerOf}
 use Rattle.channel.specs.Call.{Call, Result, incomplete, complete}
 use Rattle.channel.specs.Change.{withPeerWindow, withMarks, withEntries, altered}
-use Rattle.channel.specs.Decide.{Plan, none, Flushed, flushed, anyByte, unmarked}
-use Rattle.channel.specs.Raw.{Raw, entriesOf, zeroRecord}
+use Rattle.channel.specs.Decide.{Plan, none, Flushed, unmarked}
+use Rattle.channel.specs.Raw.{Raw, zeroRecord}
 use Rattle.channel.specs.Sound.{isSound}
 use Rattle.channel.specs.Called.{Typed, Outcome, called}
 use Rattle.laws.specs.Bits.{bit}
 use Rattle.octets.specs.Buf.{write}
 use Rattle.lookup.specs.Update.{placed, stagedMore, sentMore}
-use Rattle.pending.specs.declared.Size.{Size}
-use Rattle.pending.specs.declared.Planned.{Planned}
-use Rattle.pending.specs.declared.Planned.the-variants.{Limit, Frames}
-use Rattle.pending.specs.Keep.{Base, queueWith, tableWith}
-use Rattle.pending.specs.Flush.{sizeOf, stuckBy}
-
--- the entries of a table over its queue, as `meaning` has them
-abbrev pub entriesIn : D.Table → List ℕ → List Entry
-entriesIn t q = entriesOf (t .«entry_count») (t .entries) (take (t .«queue_used») q)
-
--- what a flush of the record does to them
-abbrev pub flushedIn : D.Table → List ℕ → Record → Flushed
-flushedIn t q c = flushed c (c .«recipient_window_size») (entriesIn t q)
+use Rattle.passes.specs.declared.Size.{Size}
+use Rattle.passes.specs.Keep.{Base, queueWith, tableWith}
+use Rattle.passes.specs.Flush.{sizeOf, stuckBy}
+use Rattle.passes.specs.Pass.{flushedIn}
 
 -- the answer by the bytes framed and whether none is left
 unfoldable pub resultOf : Record → ℕ → Bool → Result
@@ -68,11 +58,6 @@ planOf t c f =
       control = controlOf c (f .all);
       queues = none;
     }
-
--- what the size pass answers: Limit, or the sizes of the flush
-unfoldable pub PlannedBy : Record → List Entry → Planned → Type 0
-PlannedBy c es Limit = eqb (c .«recipient_maximum_packet_size») 0 && anyByte (numberOf c) es ≡ true
-PlannedBy c es (Frames s) = (eqb (c .«recipient_maximum_packet_size») 0 && anyByte (numberOf c) es ≡ false) × (s ≡ sizeOf (flushed c (c .«recipient_window_size») es)) × (s .size ≤ 18 * mostBytes)
 
 -- the sizes of the flush of the record at place i were found, and its limit is no obstacle
 pub record Ready (t : D.Table) (q : List ℕ) (i : ℕ) (c : Record) (s : Size) : Type 0 where

@@ -5,8 +5,8 @@ use mathlib.Core.Path.{_≡_, ap, _∙_}
 use Rattle.channel.specs.declared.Table as D
 use Rattle.channel.specs.State.{without}
 use Rattle.lookup.specs.Update.{counted}
-use Rattle.pending.specs.Keep.{queueWith, tableWith}
-use Rattle.pending.specs.Plan.{entriesIn}
+use Rattle.passes.specs.Keep.{queueWith, tableWith}
+use Rattle.passes.specs.Pass.{entriesIn}
 use borrow.Author.Needs.{needs}
 use Rattle.incoming.proofs.end_channel.Statement.{statement}
 use Rattle.incoming.proofs.end_channel.Tie as tie

@@ -9,7 +9,7 @@ use Rattle.channel.specs.Called.{Typed, lent}
 use Rattle.channel.specs.Answers as A
 use Rattle.lookup.proofs.Limits.{limits}
 use Rattle.lookup.proofs.Branch.{unsound}
-use Rattle.pending.proofs.Rows.{base-of}
+use Rattle.passes.proofs.Rows.{base-of}
 use Rattle.reading.specs.Reads as E
 use Rattle.incoming.specs.Takes as T
 use Rattle.incoming.proofs.Taking.{malformed-is, read-is}

@@ -6,7 +6,7 @@ use native.Mathlib.Omega.{arith}
 use borrow.Author.Needs.{needs}
 use lib.ListN.{take}
 use Rattle.pending.specs.All.{leastFrom, noneYet}
-use Rattle.pending.proofs.FlushLaws.{ahead}
+use Rattle.passes.proofs.FlushLaws.{ahead}
 use Rattle.pending.proofs.AllLaws.{least-start, least-cons, least-none}
 use Rattle.pending.proofs.least_from.Statement.{statement}
 use Rattle.pending.proofs.least_from.Tie as tie

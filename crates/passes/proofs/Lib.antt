@@ -1,0 +1,5 @@
+pub mod KeepLaws
+pub mod FlushLaws
+pub mod Definition
+pub mod Rows
+pub mod PassLaws
