@@ -542,10 +542,43 @@ def text(data):
     return u32(len(data)) + data
 
 
+SETTLED = b"\x09\x01\x00" + b"\x0a\x00" + b"\x0b"  # what follows a frame: all pending, staged, drained
+
+
+def echoed(number, data, code=None):
+    """Data comes in, is charged with target 64 and goes back in the writer form with the same kind."""
+    message = heard(94, number, text(data)) if code is None else heard(95, number, code, text(data))
+    return message + on(7, number, len(data), 64) + put(1, 0, number, data, code) + SETTLED
+
+
+def conversation(a, b):
+    """Twenty-four frames of a peer on two channels that were just opened, and what is done about each."""
+    return b"".join([
+        # nothing is heard before a channel is confirmed; a 92 ends one that never is
+        heard(94, a, text(b"early")), heard(91, a, 7, 5, 3) + SETTLED, heard(91, b, 9, 4, 4, b"tail") + SETTLED,
+        # windows run out on both channels, in both kinds
+        echoed(a, b"abcdefgh"), echoed(b, b"wxyz!", 1),
+        # malformed, unknown and once too often, between the others
+        heard(94, a, b"\x00\x00\x00\x09short"), heard(94, 99, text(b"no")), heard(91, a, 7, 5, 3), heard(90, a), heard(93, a, 1, b"!"),
+        # a window comes back by parts: two of the three bytes, then the last
+        heard(93, a, 2) + SETTLED, heard(93, a, 1) + SETTLED,
+        # queued at window 0 behind nothing, and behind an entry of the other kind; then credit to the edge, and past it
+        echoed(a, b"ij", 2), echoed(a, b"k"), heard(93, a, TOP) + SETTLED, heard(93, a, 4),
+        # the receive window falls below half the target: an adjust is staged, and the data goes out behind it
+        echoed(a, b"0123456789" * 2 + b"01"),
+        # EOF of ours behind an entry, the peer's EOF, and the last byte
+        on(5, b), heard(96, b) + SETTLED, heard(93, b, 1) + SETTLED, heard(92, b, 1, text(b""), text(b"")),
+        # our CLOSE ends a channel at once; the peer's then finds none
+        on(6, b) + SETTLED, heard(97, b) + SETTLED,
+        # data waits during rekey, EOF behind it; the peer's CLOSE takes both along
+        put(1, 1, a, b"rekey"), heard(96, a), on(5, a), heard(97, a) + SETTLED, heard(94, a, text(b"late")),
+    ])
+
+
 def stored():
-    """Every call, every refusal and both kinds of damage."""
+    """Every call, every refusal, a conversation, and both kinds of damage."""
     parts = [
-        u32(40), u32(120), u32(70),
+        u32(40), u32(160), u32(70),
         # numbers; 8: the number is used
         new(64, 32), b"\x02", new(10, 20),
         opened(7, 70, 64, 32, 5, 3), opened(7, 71, 1, 1, 1, 1), opened(9, 90, 100, 50, 4, 0), opened(3, 30, 8, 8, 100, 4),
@@ -572,13 +605,17 @@ def stored():
         put(0, 1, 3, b"hi"), put(0, 1, 9, b"z"), put(0, 1, 2, b"qrstuv"), b"\x09\x00\x00", b"\x09\x01\x01",
         # an incoming CLOSE drops the entries
         heard(97, 9), heard(97, 9), on(6, 3),
+        # a peer talks on two new channels, 5 and 6
+        new(64, 32), new(64, 32), conversation(5, 6),
+        # one frame is staged
+        opened(8, 80, 1, 1, 1, 1), on(5, 8),
         # damage: a byte of each buffer, past a buffer's end and in no buffer; 1: the state is not sound
         b"\x10\x00" + u32(0) + b"\xaa", b"\x10\x02" + u32(69) + b"\xbb", b"\x10\x02" + u32(70) + b"\xcc", b"\x10\x03" + u32(0) + b"\xdd",
         b"\x10\x01" + u32(3) + b"\xff",
         new(1, 1), b"\x02", opened(2, 2, 2, 2, 2, 2), put(1, 0, 2, b"a"), on(5, 2), on(6, 2), on(7, 2, 2, 2), b"\x08\x01\x00" + u32(2), b"\x09\x01\x00",
         b"\x0a\x00", b"\x0b", heard(96, 2), on(13, 2), on(14, 2),
         b"\x10\x01" + u32(3) + b"\x05", on(13, 2),
-        on(15, 41, 121, TOP, 3), on(13, 2), on(15, 0, 0, 0, 0), on(13, 2), on(15, 0, 0, 0, TOP), on(14, 2),
+        on(15, 41, 161, TOP, 3), on(13, 2), on(15, 0, 0, 0, 0), on(13, 2), on(15, 0, 0, 0, TOP), on(14, 2),
     ]
     return b"".join(parts) + b"\x04\x02"
 
