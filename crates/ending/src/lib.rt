@@ -23,7 +23,7 @@ ghost use Rattle.channel.specs.State.{placeCount, mostBytes};
 ghost use Rattle.channel.specs.Wire.{frame};
 ghost use Rattle.channel.specs.Call.{act, eof, close};
 ghost use Rattle.channel.specs.Called.{lent, outcome, called};
-ghost use Rattle.channel.specs.Answers.{acted};
+ghost use Rattle.channel.specs.Answers.{acted, refusal};
 ghost use Rattle.lookup.specs.Update.{stagedMore};
 ghost use Rattle.ending.specs.Ends.{callOf, messageOf, marks, leaves, Planned};
 
@@ -104,6 +104,16 @@ fn staged_table(e: Ending, t: Table, i: usize) -> Table
     }
 }
 
+// A refusal, which changes nothing.
+fn refused(t: Table, k: Refusal) -> Ended
+    ensures { λ r. ⌜ (acted (r .answer) ≡ refusal k) × (r .table ≡ t) ⌝ }
+{
+    Ended {
+        answer: Acted::Refused(k),
+        table: t,
+    }
+}
+
 // Both calls: they differ in the mark, the message and the table after it.
 fn end_with(
     e: Ending,
@@ -119,19 +129,13 @@ fn end_with(
     if sound(t, queue, &staged[..], sent) {
         let f = find(t, n);
         match f {
-            Found::Nothing => Ended {
-                answer: Acted::Refused(Refusal::Unknown),
-                table: t,
-            },
+            Found::Nothing => refused(t, Refusal::Unknown),
             Found::At(i) => {
                 let r = t.records[i];
                 let at = t.staged_used;
                 let p = decide(r.confirmed, has_entry(t, n), at, staged.len());
                 match p {
-                    Plan::Refuse(k) => Ended {
-                        answer: Acted::Refused(k),
-                        table: t,
-                    },
+                    Plan::Refuse(k) => refused(t, k),
                     Plan::Mark => Ended {
                         answer: Acted::Done,
                         table: with_record(t, i, marked(e, r)),
@@ -149,10 +153,7 @@ fn end_with(
             }
         }
     } else {
-        Ended {
-            answer: Acted::Refused(Refusal::State),
-            table: t,
-        }
+        refused(t, Refusal::State)
     }
 }
 

@@ -11,6 +11,7 @@ use borrow.Author.Tests.{le-leb, lt-leb}
 use Rattle.laws.proofs.Tests.{by-test, and-of}
 use Rattle.channel.specs.declared.Record.{Record}
 use Rattle.channel.specs.declared.Entry as E
+use Rattle.channel.specs.declared.Table as D
 use Rattle.channel.specs.Wire.{frames}
 use Rattle.channel.specs.Wire as W
 use Rattle.channel.specs.State.{mostEntries, Table, World, settleIn, queued, refit}
@@ -44,6 +45,10 @@ unsound r c e = rw e
 pub sound-step : (r : Raw) (c : Call) → isSound r ≡ true → called r c ≡ record { answer = step (meaning r) c .answer; state = written (step (meaning r) c .world) }
 unfolding C.called C.whenSound
 sound-step r c e = rw e
+
+-- the code's refusal of a state, as an outcome
+pub refusal-is : {a b : Answer} {x : D.Table} (r : Raw) → a ≡ b → x ≡ r .held → _≡_ {A = Outcome} (outcome a x (r .queue) (r .staged) (r .sent)) (record { answer = b; state = r })
+refusal-is r e f = λ j. outcome (e j) (f j) (r .queue) (r .staged) (r .sent)
 
 -- ROOM for a plan, over the code's state
 

@@ -227,7 +227,3 @@ module _ (t : T.Table) (q : List ℕ) (i : ℕ) (c : Record) (s : Size) (z : s �
       pub same-sent : v .«sent_used» ≡ t .«sent_used»
       unfolding Keep.tableWith
       same-sent = ap (λ x. x .«sent_used») settled-is
-
--- the code's refusal of a state, as an outcome
-pub refusal-is : {a b : Answer} {x : T.Table} (r : Raw) → a ≡ b → x ≡ r .held → _≡_ {A = Outcome} (outcome a x (r .queue) (r .staged) (r .sent)) (record { answer = b; state = r })
-refusal-is r e f = λ j. outcome (e j) (f j) (r .queue) (r .staged) (r .sent)

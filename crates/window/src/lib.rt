@@ -20,7 +20,7 @@ ghost use Rattle.channel.specs.Call.{act, adjust, windowOf, hasPending};
 ghost use Rattle.channel.specs.Change.{withWindow};
 ghost use Rattle.channel.specs.Decide as D;
 ghost use Rattle.channel.specs.Called.{lent, outcome, called};
-ghost use Rattle.channel.specs.Answers.{charged, windowSize, pendingData};
+ghost use Rattle.channel.specs.Answers.{charged, windowSize, pendingData, refusal};
 ghost use Rattle.window.specs.Adjusts.{Planned};
 
 // The answer, and the table after the call.
@@ -69,6 +69,16 @@ fn with_window(r: Record, window: u32) -> Record
     next
 }
 
+// A refusal, which changes nothing.
+fn refused(t: Table, k: Refusal) -> Adjustment
+    ensures { λ r. ⌜ (charged (r .answer) ≡ refusal k) × (r .table ≡ t) ⌝ }
+{
+    Adjustment {
+        answer: Charged::Refused(k),
+        table: t,
+    }
+}
+
 // n bytes received on the channel; the answer says whether a WINDOW_ADJUST was staged.
 pub fn adjust_window_size(
     t: Table,
@@ -85,20 +95,14 @@ pub fn adjust_window_size(
     if sound(t, queue, &staged[..], sent) {
         let f = find(t, number);
         match f {
-            Found::Nothing => Adjustment {
-                answer: Charged::Refused(Refusal::Unknown),
-                table: t,
-            },
+            Found::Nothing => refused(t, Refusal::Unknown),
             Found::At(i) => {
                 let r = t.records[i];
                 let at = t.staged_used;
                 let window = charge(n, r.sender_window_size);
                 let p = decide(r.confirmed, window, target, at, staged.len());
                 match p {
-                    Plan::Refuse(k) => Adjustment {
-                        answer: Charged::Refused(k),
-                        table: t,
-                    },
+                    Plan::Refuse(k) => refused(t, k),
                     Plan::Keep => Adjustment {
                         answer: Charged::Adjusted(false),
                         table: with_record(t, i, with_window(r, window)),
@@ -116,10 +120,7 @@ pub fn adjust_window_size(
             }
         }
     } else {
-        Adjustment {
-            answer: Charged::Refused(Refusal::State),
-            table: t,
-        }
+        refused(t, Refusal::State)
     }
 }
 

@@ -6,8 +6,8 @@ use borrow.Author.Needs.{needs}
 use Rattle.channel.specs.Raw.{Raw}
 use Rattle.channel.specs.Called.{lent}
 use Rattle.channel.specs.Answers as A
-use Rattle.lookup.proofs.Branch.{unsound}
-use Rattle.pending.proofs.CallLaws.{refusal-is, staged-way}
+use Rattle.lookup.proofs.Branch.{unsound, refusal-is}
+use Rattle.pending.proofs.CallLaws.{staged-way}
 use Rattle.pending.proofs.flush_pending.Statement.{statement}
 use Rattle.pending.proofs.flush_pending.Tie as tie
 

@@ -5,8 +5,7 @@ use borrow.Author.Needs.{needs}
 use Rattle.channel.specs.Raw.{Raw}
 use Rattle.channel.specs.Called.{lent}
 use Rattle.channel.specs.Answers as A
-use Rattle.lookup.proofs.Branch.{unsound}
-use Rattle.pending.proofs.CallLaws.{refusal-is}
+use Rattle.lookup.proofs.Branch.{unsound, refusal-is}
 use Rattle.pending.proofs.flush_pending_with_writer.Statement.{statement}
 use Rattle.pending.proofs.flush_pending_with_writer.Tie as tie
 
