@@ -59,5 +59,9 @@ valuesIn (C.moved frames bytes) = 1 ∷ frames ∷ bytes ∷ []
 abbrev pub padded : List ℕ → List ℕ
 padded vs = take 7 (vs ++ replicate 7 0)
 
+-- a refusal's number, and the values counted and padded
+abbrev pub listed : ℕ → List ℕ → Numbers
+listed k vs = record { refusal = k; count = length vs; values = padded vs }
+
 unfoldable pub numbersOf : C.Answer → Numbers
-numbersOf a = record { refusal = refusalIn a; count = length (valuesIn a); values = padded (valuesIn a) }
+numbersOf a = listed (refusalIn a) (valuesIn a)
