@@ -24,9 +24,10 @@ same-length c = search needs
 returns : tie.Need-returns
 returns c =
     let k = c .before .before .before .before .before in
-    let t = k .before .before in
-    let a = t .before .before .before .before .args in
-    answered C.drain (a .t) (now (a .queue)) (now (a .staged)) (now (a .sent)) (t .table-of .ensures) (k .drain .ensures) (c .before .of-acted .ensures) (c .replied .ensures)
+    let i = k .before .before in
+    let a = i .before .before .before .before .args in
+    answered C.drain (a .t) (now (a .queue)) (now (a .staged)) (now (a .sent))
+    (i .table-of .ensures) (k .drain .ensures) (c .before .of-acted .ensures) (c .replied .ensures)
 
 pub oxenhush-drain-spec : {M : Type 1} → statement M
 oxenhush-drain-spec =
