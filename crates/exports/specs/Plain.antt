@@ -1,8 +1,8 @@
 -- The table as another language holds it, and the table that it stands for.
 -- Assumes nothing.
 use Prim.Native.Nat.{ℕ}
-use mathlib.Core.Bool.{Bool, true, false}
-use mathlib.Core.List.{map}
+use mathlib.Core.Bool.{Bool, true, false, _&&_, cond}
+use mathlib.Core.List.{List, [], _∷_, map}
 use lib.Dec.{eqb}
 use Rattle.channel.specs.declared.Kind.{Kind}
 use Rattle.channel.specs.declared.Kind.the-variants.{Plain, Extended}
@@ -94,3 +94,42 @@ plainTable t =
       «staged_used» = t .«staged_used»;
       «sent_used» = t .«sent_used»;
     }
+
+-- THE FORM THAT THE LIBRARY WRITES
+
+-- plain stays 0; every other kind is 1
+abbrev pub settledKind : ℕ → ℕ
+settledKind kind = cond (eqb kind 0) 0 1
+
+-- plain data has no code
+abbrev pub settledCode : ℕ → ℕ → ℕ
+settledCode kind code = cond (eqb kind 0) 0 code
+
+abbrev pub settledEntry : PlainEntry → PlainEntry
+settledEntry e = record { number = e .number; kind = settledKind (e .kind); code = settledCode (e .kind) (e .code); left = e .left }
+
+-- what a plain table is after a call that changes nothing: only its entries' kinds and codes may differ
+unfoldable pub settled : PlainTable → PlainTable
+settled p =
+    record {
+      used = p .used;
+      last = p .last;
+      records = p .records;
+      entries = map settledEntry (p .entries);
+      «entry_count» = p .«entry_count»;
+      «queue_used» = p .«queue_used»;
+      «staged_used» = p .«staged_used»;
+      «sent_used» = p .«sent_used»;
+    }
+
+-- the kind is 0 with code 0, or 1
+abbrev pub isSettledEntry : ℕ → ℕ → Bool
+isSettledEntry kind code = cond (eqb kind 0) (eqb code 0) (eqb kind 1)
+
+-- every entry's is
+unfoldable pub areSettled : List PlainEntry → Bool
+areSettled [] = true
+areSettled (e ∷ es) = isSettledEntry (e .kind) (e .code) && areSettled es
+
+unfoldable pub isSettled : PlainTable → Bool
+isSettled p = areSettled (p .entries)
