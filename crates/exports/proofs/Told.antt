@@ -7,11 +7,11 @@ use mathlib.Core.List.{List}
 use Rattle.channel.specs.declared.Table.{Table}
 use Rattle.channel.specs.Call.{Call, Answer}
 use Rattle.channel.specs.Called.{Outcome, lent, outcome, called}
-use Rattle.exports.specs.declared.answer.Numbers.{Numbers}
+use Rattle.answers.specs.declared.Numbers.{Numbers}
 use Rattle.exports.specs.declared.plain.PlainTable.{PlainTable}
 use Rattle.exports.specs.declared.Reply.{Reply}
 use Rattle.exports.specs.Plain.{tableOf}
-use Rattle.exports.specs.Numbers.{numbersOf}
+use Rattle.answers.specs.Numbers.{numbersOf}
 use Rattle.exports.specs.Told.{Left, replyOf, left, told}
 
 -- an outcome that the code gives back, as it is told

@@ -4,10 +4,10 @@ use Prim.Native.Nat.{ℕ}
 use mathlib.Core.List.{List}
 use Rattle.channel.specs.declared.Table.{Table}
 use Rattle.channel.specs.Called.{Outcome}
-use Rattle.exports.specs.declared.answer.Numbers.{Numbers}
+use Rattle.answers.specs.declared.Numbers.{Numbers}
 use Rattle.exports.specs.declared.Reply.{Reply}
 use Rattle.exports.specs.Plain.{plainTable}
-use Rattle.exports.specs.Numbers.{numbersOf}
+use Rattle.answers.specs.Numbers.{numbersOf}
 
 -- the answer's numbers and the table in numbers
 unfoldable pub replyOf : Numbers → Table → Reply

@@ -6,22 +6,21 @@
 // - a buffer that is lent as `&mut` overlaps no other buffer of the same call;
 // - a bool, also one within the table, is 0 or 1;
 // - the structs have C's layout, with the fields in the order given here.
-mod answer;
 mod plain;
 
-use crate::answer::of_acted;
-use crate::answer::of_all;
-use crate::answer::of_charged;
-use crate::answer::of_flushed;
-use crate::answer::of_moved;
-use crate::answer::of_pending;
-use crate::answer::of_picked;
-use crate::answer::of_sent;
-use crate::answer::of_taken;
-use crate::answer::of_window;
+use answers::of_acted;
+use answers::of_all;
+use answers::of_charged;
+use answers::of_flushed;
+use answers::of_moved;
+use answers::of_pending;
+use answers::of_picked;
+use answers::of_sent;
+use answers::of_taken;
+use answers::of_window;
 use crate::plain::plain_table;
 use crate::plain::table_of;
-pub use answer::Numbers;
+use answers::Numbers;
 use channel::ChannelId;
 use channel::PeerNumber;
 use channel::Table;

@@ -5,12 +5,12 @@ use crate::fields::is_on;
 use crate::fields::is_switch;
 use crate::fields::u32_at;
 use crate::lent::damage_one;
-use answers::Answer;
-use answers::done;
+use answers::Numbers;
+use answers::none;
 use answers::of_acted;
 use answers::of_all;
 use answers::of_charged;
-use answers::of_flush;
+use answers::of_flushed;
 use answers::of_moved;
 use answers::of_pending;
 use answers::of_picked;
@@ -28,7 +28,7 @@ ghost use lib.ListN.{length};
 
 // What a call answers and the table after it. `size` is the count of the script's bytes that the call took; 0 stands for what is no call.
 pub struct Played {
-    pub answer: Answer,
+    pub answer: Numbers,
     pub table: Table,
     pub size: usize,
 }
@@ -38,7 +38,7 @@ fn no_call(t: Table) -> Played
     ensures { λ r. ⌜ r .size ≤ 0 ⌝ }
 {
     Played {
-        answer: done(),
+        answer: none(),
         table: t,
         size: 0,
     }
@@ -291,7 +291,7 @@ fn flush_pending(
     let answer = o.answer;
     let table = o.table;
     Played {
-        answer: of_flush(answer),
+        answer: of_flushed(answer),
         table: table,
         size: 7,
     }
@@ -437,7 +437,7 @@ fn damage_counts(rest: &[u8], t: Table) -> Played
     table.sent_used = u32_at(rest, 9) as usize;
     table.entry_count = u32_at(rest, 13) as usize;
     Played {
-        answer: done(),
+        answer: none(),
         table: table,
         size: 17,
     }
@@ -461,7 +461,7 @@ fn damage_byte(
     let x = byte_at(rest, 6);
     damage_one(which, queue, staged, sent, at, x);
     Played {
-        answer: done(),
+        answer: none(),
         table: t,
         size: 7,
     }

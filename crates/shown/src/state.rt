@@ -2,8 +2,8 @@
 use crate::text::put;
 use crate::text::put_hex;
 use crate::text::put_number;
-use answers::Answer;
-use answers::digit;
+use answers::Numbers;
+use answers::bit;
 use channel::Entry;
 use channel::Kind;
 use channel::Record;
@@ -33,11 +33,11 @@ pub fn show_no_call(out: &mut [u8; 16384], start: usize, place: usize) -> usize 
 }
 
 // The line of a call's answer.
-pub fn show_answer(out: &mut [u8; 16384], start: usize, a: Answer) -> usize {
+pub fn show_answer(out: &mut [u8; 16384], start: usize, a: Numbers) -> usize {
     let mut at = put(out, start, b'=');
-    at = put_number(out, at, a.refusal);
+    at = put_number(out, at, a.refusal as u64);
     let values = a.values;
-    at = put_values(out, at, values, a.count);
+    at = put_values(out, at, values, a.count as usize);
     put_line(out, at)
 }
 
@@ -51,10 +51,10 @@ pub fn put_fields(out: &mut [u8; 16384], start: usize, r: Record) -> usize {
     at = put_number(out, at, r.sender_window_size as u64);
     at = put_number(out, at, r.recipient_maximum_packet_size as u64);
     at = put_number(out, at, r.sender_maximum_packet_size as u64);
-    at = put_number(out, at, digit(r.confirmed));
-    at = put_number(out, at, digit(r.wants_reply));
-    at = put_number(out, at, digit(r.pending_eof));
-    put_number(out, at, digit(r.pending_close))
+    at = put_number(out, at, bit(r.confirmed));
+    at = put_number(out, at, bit(r.wants_reply));
+    at = put_number(out, at, bit(r.pending_eof));
+    put_number(out, at, bit(r.pending_close))
 }
 
 // The line of a record: its place and its fields.
