@@ -1,3 +1,4 @@
 pub mod Fill
 pub mod Told
 pub mod Back
+pub mod Read

@@ -1,3 +1,4 @@
 pub mod Plain
 pub mod Numbers
+pub mod Read
 pub mod Told
