@@ -13,9 +13,12 @@ use Rattle.channel.specs.declared.Kind.the-variants.{Plain, Extended}
 use Rattle.channel.specs.declared.Entry.{Entry}
 use Rattle.channel.specs.declared.Record.{Record}
 use Rattle.channel.specs.declared.Table.{Table}
+use Rattle.channel.specs.Called.{Outcome, lent}
 use Rattle.exports.specs.declared.plain.PlainEntry.{PlainEntry}
 use Rattle.exports.specs.declared.plain.PlainRecord.{PlainRecord}
 use Rattle.exports.specs.declared.plain.PlainTable.{PlainTable}
+use Rattle.exports.specs.declared.Reply.{Reply}
+use Rattle.exports.specs.Told.{Left, replyOf, left, told}
 use Rattle.exports.specs.Plain.{either, kindOf, entryOf, recordOf, tableOf, kindNumber, kindCode, plainEntry, plainRecord, plainTable, settledEntry, settled, isSettledEntry, areSettled, isSettled}
 
 -- A TABLE, AND BACK
@@ -132,3 +135,12 @@ entries-settled (e ∷ es) = and-of _ _ (kind-settled (e .kind)) (entries-settle
 pub writes-settled : (t : Table) → isSettled (plainTable t) ≡ true
 unfolding plainTable isSettled
 writes-settled t = entries-settled (t .entries)
+
+-- ONE CALL AFTER ANOTHER
+
+-- the table that a reply holds, given back with the same buffers, stands for the definition's state after the call
+pub goes-on : (r : Reply) (q s x : List ℕ) (o : Outcome) → left r q s x ≡ told o → lent (tableOf (r .table)) q s x ≡ o .state
+unfolding told replyOf
+goes-on r q s x o e =
+    let t : tableOf (r .table) ≡ o .state .held = ap (λ (l : Left). tableOf (l .reply .table)) e ∙ table-back (o .state .held) in
+    λ i. record { held = t i; queue = e i .queue; staged = e i .staged; sent = e i .sent }

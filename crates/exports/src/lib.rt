@@ -1,13 +1,17 @@
 // The calls for a program in another language, each under its plain name with the prefix `oxenhush_`. A table goes in by value and comes back
-// by value, as C passes a struct. A call asks nothing of the table: where it is not a sound state the answer is 1, and it stays as it is.
+// by value, as C passes a struct. Every value of its numbers is taken: where the state is not sound the answer is 1, and nothing changes save
+// kinds and codes in another form than the library's (`PlainEntry`).
 //
-// A caller must keep what Rattle's types say, and nothing more:
-// - a slice is a pointer and a length: the pointer is not null and aligned, and that many bytes are there for the length of the call;
-// - a buffer that is lent as `&mut` overlaps no other buffer of the same call;
-// - a bool, also one within the table, is 0 or 1;
+// What a caller must keep, and nothing more is relied on:
+// - a slice is a pointer and a length: the pointer is not null, also for length 0, and that many bytes are there during the call;
+// - a buffer lent as `&mut` overlaps no other buffer of the same call;
+// - a bool is 0 or 1, also within the table;
 // - the structs have C's layout, with the fields in the order given here.
 mod plain;
 
+use crate::plain::plain_table;
+use crate::plain::table_of;
+use answers::Numbers;
 use answers::of_acted;
 use answers::of_all;
 use answers::of_charged;
@@ -18,9 +22,6 @@ use answers::of_picked;
 use answers::of_sent;
 use answers::of_taken;
 use answers::of_window;
-use crate::plain::plain_table;
-use crate::plain::table_of;
-use answers::Numbers;
 use channel::ChannelId;
 use channel::PeerNumber;
 use channel::Table;
@@ -315,7 +316,7 @@ pub extern "C" fn oxenhush_adjust_window_size(
     replied(of_charged(answer), next)
 }
 
-// Value: the receive window, 0 for an unknown number. The table comes back as it stands.
+// The receive window, 0 for an unknown number. Value: that window.
 #[no_mangle]
 pub extern "C" fn oxenhush_sender_window_size(
     t: PlainTable,
@@ -334,7 +335,7 @@ pub extern "C" fn oxenhush_sender_window_size(
     replied(of_window(answer), inner)
 }
 
-// Value: 1 if the channel has an entry, else 0. The table comes back as it stands.
+// Whether the channel has an entry, no for an unknown number. Value: 1 or 0.
 #[no_mangle]
 pub extern "C" fn oxenhush_has_pending_data(
     t: PlainTable,

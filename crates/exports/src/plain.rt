@@ -27,7 +27,7 @@ pub struct PlainRecord {
     pub pending_close: bool,
 }
 
-// One pending entry. The library writes code 0 for plain data.
+// One pending entry. A kind above 1 is taken as 1, and plain data's code as 0; what comes back is always 0 with code 0, or 1.
 #[repr(C)]
 pub struct PlainEntry {
     pub number: u32,
