@@ -1,3 +1,4 @@
+-- `answers::stopped` meets its contract: each case of the answer is its numbers in `specs/Numbers`.
 -- Assumes nothing.
 use borrow.Author.Needs.{needs}
 use Rattle.answers.specs.Numbers.{numbersOf, refusalIn, valuesIn, resultValues, messageValues}

@@ -1,3 +1,4 @@
+-- `exports::oxenhush_table_new` meets its contract: the empty table in numbers.
 -- Assumes nothing.
 use mathlib.Core.Path.{ap, _∙_}
 use borrow.Author.Needs.{needs}

@@ -1,3 +1,4 @@
+-- `exports::replied` meets its contract: the table in numbers beside the answer.
 -- Assumes nothing.
 use borrow.Author.Needs.{needs}
 use Rattle.exports.specs.Told.{replyOf}

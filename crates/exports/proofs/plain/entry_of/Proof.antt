@@ -1,3 +1,4 @@
+-- `exports::entry_of` meets its contract: field by field.
 -- Assumes nothing.
 use borrow.Author.Needs.{needs}
 use Rattle.exports.proofs.plain.entry_of.Statement.{statement}

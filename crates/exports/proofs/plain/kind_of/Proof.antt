@@ -1,3 +1,4 @@
+-- `exports::kind_of` meets its contract: field by field.
 -- Assumes nothing.
 use borrow.Author.Tests.{eq-eqb, ne-eqb}
 use Rattle.exports.proofs.plain.kind_of.Statement.{statement}

@@ -1,3 +1,4 @@
+-- `exports::plain_entry` meets its contract: field by field.
 -- Assumes nothing.
 use borrow.Author.Needs.{needs}
 use Rattle.exports.proofs.plain.plain_entry.Statement.{statement}

@@ -1,3 +1,4 @@
+-- `exports::table_of` meets its contract: field by field.
 -- Assumes nothing.
 use borrow.Author.Needs.{needs}
 use Rattle.exports.specs.Plain.{tableOf}
