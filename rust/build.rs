@@ -46,8 +46,8 @@ fn is_fresh(archive: &Path, sources: &[PathBuf]) -> bool {
     }
 }
 
-/// Proves the library and everything below it, as far as that is not yet done, and writes the archive. `rt` proves the library itself anew each
-/// time, about a minute, so it is not asked where nothing changed.
+/// Proves the library and everything below it, as far as that is not yet done, and writes the archive. `rt` proves the library itself anew
+/// each time, about a minute, so it is not asked where nothing changed.
 fn make_archive(root: &Path) -> PathBuf {
     let folder = root.join("target").join("staticlib");
     let sources = [root.join("crates"), root.join("crates.txt")];

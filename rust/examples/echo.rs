@@ -1,5 +1,5 @@
-//! The echo program of document 01: a run of frames on standard input, two channels that send back what they get, and what is sent on standard
-//! output.
+//! The echo program of document 01: a run of frames on standard input, two channels that send back what they get, and what is sent on
+//! standard output.
 //!
 //!     cargo run --example echo < ../crates/echo/stdin | od -An -tx1 -v
 
@@ -16,8 +16,8 @@ fn next_frame(input: &[u8]) -> Option<(&[u8], &[u8])> {
     Some((rest.get(..length)?, &rest[length..]))
 }
 
-/// What a message is answered with: data with data, EOF with EOF, the others with nothing. Charge and data are two replies: each is made, also
-/// where the other is refused.
+/// What a message is answered with: data with data, EOF with EOF, the others with nothing. Charge and data are two replies: each is made,
+/// also where the other is refused.
 fn reply(channels: &mut Channels, message: Message) -> Result<(), Error> {
     match message {
         Message::Data { channel, ext, data } => {

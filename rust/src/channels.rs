@@ -80,9 +80,9 @@ impl Pending {
 /// It owns three buffers. Bytes that wait stand in *queue*, frames that wait in *staged*, and *sent* has the frames for the cipher below. A
 /// frame is a big-endian length of 32 bits and one message.
 ///
-/// A method changes nothing where it answers an [`Error`], the two flushes of all channels apart. Every method that gives a `Result` answers
-/// [`Error::State`] if a buffer is longer than 65,536 bytes; its own errors are named at each. Two values are equal if every byte is, those past
-/// the used parts of the buffers among them.
+/// A method changes nothing where it answers an [`Error`], the two flushes of all channels apart. Every method that gives a `Result`
+/// answers [`Error::State`] if a buffer is longer than 65,536 bytes; its own errors are named at each. Two values are equal if every byte
+/// is, those past the used parts of the buffers among them.
 ///
 /// Packets for a peer that takes 5 bytes, 3 in one packet:
 ///
@@ -118,7 +118,8 @@ pub struct Channels {
 }
 
 impl Channels {
-    /// No channel yet, and three buffers of so many bytes. Each may have 65,536 at most: with a longer one every call answers [`Error::State`].
+    /// No channel yet, and three buffers of so many bytes. Each may have 65,536 at most: with a longer one every call answers
+    /// [`Error::State`].
     pub fn new(queue: usize, staged: usize, sent: usize) -> Channels {
         let buffer = |size| vec![0; size].into_boxed_slice();
         Channels { table: ffi::table_new(), queue: buffer(queue), staged: buffer(staged), sent: buffer(sent) }
@@ -168,8 +169,8 @@ impl Channels {
     ///
     /// # Errors
     ///
-    /// [`Error::Unknown`], [`Error::Unconfirmed`], [`Error::Limit`] (not asked where all is queued), [`Error::Room`] (asked of the packets and
-    /// the rest together).
+    /// [`Error::Unknown`], [`Error::Unconfirmed`], [`Error::Limit`] (not of empty data, nor where the whole is queued), [`Error::Room`]
+    /// (asked of the packets and the rest together).
     pub fn data(&mut self, channel: ChannelId, buf: &[u8], rekey: bool) -> Result<usize, Error> {
         answer::count(&ffi::data(&mut self.table, &mut self.queue, &mut self.staged, &self.sent, channel.0, buf, rekey))
     }
@@ -265,8 +266,8 @@ impl Channels {
         answer::channel_flush_result(&ffi::flush_pending(&mut self.table, &mut self.queue, &mut self.staged, &self.sent, channel.0))
     }
 
-    /// As [`flush_pending`](Self::flush_pending), but the packets go straight into sent if nothing is staged and `rekey` is off. EOF and CLOSE
-    /// are always staged.
+    /// As [`flush_pending`](Self::flush_pending), but the packets go straight into sent if nothing is staged and `rekey` is off. EOF and
+    /// CLOSE are always staged.
     ///
     /// # Errors
     ///
@@ -282,8 +283,8 @@ impl Channels {
         ))
     }
 
-    /// Does [`flush_pending`](Self::flush_pending) for every channel, in ascending number, and stops at the first refusal. What was done before
-    /// it stands.
+    /// Does [`flush_pending`](Self::flush_pending) for every channel, in ascending number, and stops at the first refusal. What was done
+    /// before it stands.
     ///
     /// # Errors
     ///

@@ -14,7 +14,7 @@ pub enum Error {
     Unknown = 2,
     /// 3: the channel is not confirmed yet.
     Unconfirmed = 3,
-    /// 4: bytes would be framed now, and the peer's packet limit is 0.
+    /// 4: bytes would be framed now, and the peer's packet limit is 0. So it is also where the peer's window is 0.
     Limit = 4,
     /// 5: there is no free place or entry, or not enough free bytes in queue, staged or sent for the whole result.
     Room = 5,

@@ -1,5 +1,5 @@
-//! Random calls, one after the other, through the wrapper: each gives an answer, what is read of a message is what stands in it, and a refusal
-//! changes nothing.
+//! Random calls, one after the other, through the wrapper: each gives an answer, what is read of a message is what stands in it, and a
+//! refusal changes nothing.
 
 #[path = "support/random.rs"]
 mod random;

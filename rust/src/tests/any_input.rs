@@ -1,5 +1,5 @@
-//! Any table, any buffers, any arguments: every exported call gives an answer, it is 1 exactly where the state is not sound, a refusal changes
-//! nothing, and sound goes to sound.
+//! Any table, any buffers, any arguments: every exported call gives an answer, it is 1 exactly where the state is not sound, a refusal
+//! changes nothing, and sound goes to sound.
 
 use super::random::Random;
 use super::state::{any_state, damaged_state, sound_state, State};
