@@ -11,7 +11,7 @@
 /// One channel.
 #[repr(C)]
 #[derive(Clone, Copy, Debug, Default, PartialEq, Eq)]
-pub struct PlainRecord {
+pub struct Record {
     pub recipient_channel: u32,
     pub sender_channel: u32,
     pub recipient_window_size: u32,
@@ -24,24 +24,31 @@ pub struct PlainRecord {
     pub pending_close: bool,
 }
 
-/// One pending entry. Kind 0 is plain, any other extended; what comes back is 0 with code 0, or 1.
+/// Which data an entry holds: plain, whatever the code, or extended with a code.
 #[repr(C)]
 #[derive(Clone, Copy, Debug, Default, PartialEq, Eq)]
-pub struct PlainEntry {
-    pub number: u32,
-    pub kind: u32,
+pub struct StoredKind {
+    pub extended: bool,
     pub code: u32,
+}
+
+/// One pending entry.
+#[repr(C)]
+#[derive(Clone, Copy, Debug, Default, PartialEq, Eq)]
+pub struct Entry {
+    pub number: u32,
+    pub kind: StoredKind,
     pub left: u32,
 }
 
 /// The whole table: bit i of `used` says whether place i holds a record, and the last three counts are those of the lent buffers.
 #[repr(C)]
 #[derive(Clone, Copy, Debug, PartialEq, Eq)]
-pub struct PlainTable {
+pub struct Table {
     pub used: u32,
     pub last: u32,
-    pub records: [PlainRecord; 32],
-    pub entries: [PlainEntry; 64],
+    pub records: [Record; 32],
+    pub entries: [Entry; 64],
     pub entry_count: usize,
     pub queue_used: usize,
     pub staged_used: usize,
@@ -57,11 +64,21 @@ pub struct Numbers {
     pub values: [u64; 7],
 }
 
-/// What every call gives back.
+/// What every call but a query gives back. The table is kept in the last reply, and a call writes the next one over it: so the table is
+/// copied once for a call, on its way in.
 #[repr(C)]
+#[derive(Clone, Copy)]
 pub struct Reply {
     pub answer: Numbers,
-    pub table: PlainTable,
+    pub table: Table,
+}
+
+impl Reply {
+    /// A table that no call has given back yet.
+    pub fn with(table: Table) -> Reply {
+        let answer = Numbers { refusal: 0, count: 0, values: [0; 7] };
+        Reply { answer, table }
+    }
 }
 
 /// How a buffer is lent to a safe function: `mut` if the call may change it.
@@ -80,13 +97,23 @@ macro_rules! pointer {
     (ref $slice:ident) => { $slice.as_ptr() };
 }
 
-/// The table of a query is only read, and the one that comes back is dropped; any other call's takes the old one's place.
+/// A query, `ref`, only reads the table and gives its answer back; any other call, `mut`, gives a whole reply, which takes the old one's
+/// place.
 #[rustfmt::skip]
 macro_rules! table {
-    (mut) => { &mut PlainTable };
-    (ref) => { &PlainTable };
-    (mut $table:ident $reply:ident) => { *$table = $reply.table };
-    (ref $table:ident $reply:ident) => { };
+    (mut) => { &mut Reply };
+    (ref) => { &Table };
+    (mut $table:ident) => { $table.table };
+    (ref $table:ident) => { *$table };
+    (mut $table:ident = $reply:expr) => {{ *$table = $reply; $table.answer }};
+    (ref $table:ident = $reply:expr) => { $reply };
+}
+
+/// What the library gives back.
+#[rustfmt::skip]
+macro_rules! given {
+    (mut) => { Reply };
+    (ref) => { Numbers };
 }
 
 /// Declares exported functions and writes a safe function over each. A line has the table's borrow, those of queue, staged and sent, the
@@ -98,13 +125,13 @@ macro_rules! calls {
     )*) => {
         extern "C" {
             $(fn $export(
-                t: PlainTable,
+                t: Table,
                 queue: pointer!($queue), queue_len: usize,
                 staged: pointer!($staged), staged_len: usize,
                 sent: pointer!($sent), sent_len: usize
                 $(, $number: $type)*
                 $(, $bytes: *const u8, bytes_len: usize $(, $rekey: $yes_or_no)?)?
-            ) -> Reply;)*
+            ) -> given!($table);)*
         }
         $(
             #[inline]
@@ -117,19 +144,19 @@ macro_rules! calls {
                 $(, $number: $type)*
                 $(, $bytes: &[u8] $(, $rekey: $yes_or_no)?)?
             ) -> Numbers {
-                // SAFETY: the arguments keep what the library asks, as said at the top of this file.
-                let reply = unsafe {
-                    $export(
-                        *t,
-                        pointer!($queue queue), queue.len(),
-                        pointer!($staged staged), staged.len(),
-                        pointer!($sent sent), sent.len()
-                        $(, $number)*
-                        $(, $bytes.as_ptr(), $bytes.len() $(, $rekey)?)?
-                    )
-                };
-                table!($table t reply);
-                reply.answer
+                table!($table t = {
+                    // SAFETY: the arguments keep what the library asks, as said at the top of this file.
+                    unsafe {
+                        $export(
+                            table!($table t),
+                            pointer!($queue queue), queue.len(),
+                            pointer!($staged staged), staged.len(),
+                            pointer!($sent sent), sent.len()
+                            $(, $number)*
+                            $(, $bytes.as_ptr(), $bytes.len() $(, $rekey)?)?
+                        )
+                    }
+                })
             }
         )*
     };
@@ -159,11 +186,11 @@ calls! {
 }
 
 extern "C" {
-    fn oxenhush_table_new() -> PlainTable;
+    fn oxenhush_table_new() -> Table;
 }
 
 /// The empty table.
-pub fn table_new() -> PlainTable {
+pub fn table_new() -> Table {
     // SAFETY: it takes nothing.
     unsafe { oxenhush_table_new() }
 }

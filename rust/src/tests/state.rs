@@ -1,59 +1,54 @@
 //! A state of the library, whole: what document 01 calls sound, and states drawn at random.
 
 use super::random::Random;
-use crate::ffi::{table_new, PlainEntry, PlainRecord, PlainTable};
+use crate::ffi::{table_new, Entry, Record, Reply, StoredKind, Table};
 
 /// The most bytes in a buffer of a sound state.
 pub const MOST: usize = 65_536;
 
-#[derive(Clone, PartialEq, Eq)]
+#[derive(Clone)]
 pub struct State {
-    pub table: PlainTable,
+    pub last: Reply,
     pub queue: Vec<u8>,
     pub staged: Vec<u8>,
     pub sent: Vec<u8>,
 }
 
+/// Every byte of the table and the buffers.
+impl PartialEq for State {
+    fn eq(&self, other: &State) -> bool {
+        self.last.table == other.last.table && self.queue == other.queue && self.staged == other.staged && self.sent == other.sent
+    }
+}
+
 impl State {
     /// The records in use.
-    pub fn used(&self) -> Vec<PlainRecord> {
-        (0..32).filter(|i| self.table.used >> i & 1 == 1).map(|i| self.table.records[i]).collect()
+    pub fn used(&self) -> Vec<Record> {
+        (0..32).filter(|i| self.last.table.used >> i & 1 == 1).map(|i| self.last.table.records[i]).collect()
     }
 
     /// The entries in use, as far as there are 64.
-    fn pending(&self) -> &[PlainEntry] {
-        &self.table.entries[..self.table.entry_count.min(64)]
-    }
-
-    /// The same state with kinds and codes in the form that the library writes: 0 with code 0, or 1.
-    pub fn settled(&self) -> State {
-        let mut state = self.clone();
-        for e in &mut state.table.entries {
-            e.code = if e.kind == 0 { 0 } else { e.code };
-            e.kind = e.kind.min(1);
-        }
-        state
+    fn pending(&self) -> &[Entry] {
+        &self.last.table.entries[..self.last.table.entry_count.min(64)]
     }
 
     /// Document 01's paragraph "A state is sound when", clause by clause.
     pub fn is_sound(&self) -> bool {
-        let state = self.settled();
-        state.counts_are_sound() && state.rest_is_zero() && state.channels_are_sound() && state.whole_frames()
+        self.counts_are_sound() && self.rest_is_zero() && self.channels_are_sound() && self.whole_frames()
     }
 
     /// No buffer is too long or its used count too large, and there are at most 64 entries.
     fn counts_are_sound(&self) -> bool {
-        let t = &self.table;
+        let t = &self.last.table;
         let buffers = [(&self.queue, t.queue_used), (&self.staged, t.staged_used), (&self.sent, t.sent_used)];
         t.entry_count <= 64 && buffers.iter().all(|(buffer, used)| buffer.len() <= MOST && *used <= buffer.len())
     }
 
     /// Unused places and entries are zero.
     fn rest_is_zero(&self) -> bool {
-        let t = &self.table;
+        let t = &self.last.table;
         let vacant = (0..32).filter(|i| t.used >> i & 1 == 0);
-        vacant.into_iter().all(|i| t.records[i] == PlainRecord::default())
-            && t.entries[t.entry_count..].iter().all(|e| *e == PlainEntry::default())
+        vacant.into_iter().all(|i| t.records[i] == Record::default()) && t.entries[t.entry_count..].iter().all(|e| *e == Entry::default())
     }
 
     /// Used numbers are distinct; entries name confirmed records, and their lengths sum to the queue's used count; a mark stands only on a
@@ -63,18 +58,18 @@ impl State {
         let mut numbers: Vec<u32> = used.iter().map(|r| r.sender_channel).collect();
         numbers.sort_unstable();
         numbers.dedup();
-        let confirmed = |e: &PlainEntry| used.iter().any(|r| r.sender_channel == e.number && r.confirmed);
-        let marked = |r: &PlainRecord| r.pending_eof || r.pending_close;
-        let waits = |r: &PlainRecord| pending.iter().any(|e| e.number == r.sender_channel);
+        let confirmed = |e: &Entry| used.iter().any(|r| r.sender_channel == e.number && r.confirmed);
+        let marked = |r: &Record| r.pending_eof || r.pending_close;
+        let waits = |r: &Record| pending.iter().any(|e| e.number == r.sender_channel);
         numbers.len() == used.len()
             && pending.iter().all(confirmed)
-            && pending.iter().map(|e| e.left as usize).sum::<usize>() == self.table.queue_used
+            && pending.iter().map(|e| e.left as usize).sum::<usize>() == self.last.table.queue_used
             && used.iter().all(|r| !marked(r) || waits(r))
     }
 
     /// Staged is whole frames, none empty.
     fn whole_frames(&self) -> bool {
-        let mut rest = &self.staged[..self.table.staged_used];
+        let mut rest = &self.staged[..self.last.table.staged_used];
         while rest.len() >= 4 {
             let length = u32::from_be_bytes([rest[0], rest[1], rest[2], rest[3]]) as usize;
             if length == 0 || length > rest.len() - 4 {
@@ -87,8 +82,8 @@ impl State {
 }
 
 /// Any record.
-fn any_record(random: &mut Random) -> PlainRecord {
-    PlainRecord {
+fn any_record(random: &mut Random) -> Record {
+    Record {
         recipient_channel: random.number(),
         sender_channel: random.number(),
         recipient_window_size: random.number(),
@@ -103,8 +98,9 @@ fn any_record(random: &mut Random) -> PlainRecord {
 }
 
 /// Any entry.
-fn any_entry(random: &mut Random) -> PlainEntry {
-    PlainEntry { number: random.number(), kind: random.number(), code: random.number(), left: random.number() }
+fn any_entry(random: &mut Random) -> Entry {
+    let kind = StoredKind { extended: random.either(), code: random.number() };
+    Entry { number: random.number(), kind, left: random.number() }
 }
 
 /// Any numbers at all.
@@ -122,11 +118,11 @@ pub fn any_state(random: &mut Random) -> State {
         let length = random.length();
         random.bytes(length)
     };
-    State { table, queue: buffer(), staged: buffer(), sent: buffer() }
+    State { last: Reply::with(table), queue: buffer(), staged: buffer(), sent: buffer() }
 }
 
 /// Records at some places, with numbers that are distinct, and no mark.
-fn put_records(random: &mut Random, table: &mut PlainTable) {
+fn put_records(random: &mut Random, table: &mut Table) {
     let (first, step) = (random.number(), random.one_of(&[1, 1, 3, 64]));
     let vacant = random.one_of(&[1, 2, 16, usize::MAX]);
     for place in 0..32 {
@@ -134,14 +130,13 @@ fn put_records(random: &mut Random, table: &mut PlainTable) {
             let sender_channel = first.wrapping_add(place as u32 * step);
             let confirmed = !random.once_in(4);
             table.used |= 1 << place;
-            table.records[place] =
-                PlainRecord { sender_channel, confirmed, pending_eof: false, pending_close: false, ..any_record(random) };
+            table.records[place] = Record { sender_channel, confirmed, pending_eof: false, pending_close: false, ..any_record(random) };
         }
     }
 }
 
 /// Entries for confirmed records, as far as the queue has room, and marks behind them.
-fn put_entries(random: &mut Random, table: &mut PlainTable, room: usize) {
+fn put_entries(random: &mut Random, table: &mut Table, room: usize) {
     let places: Vec<usize> = (0..32).filter(|i| table.used >> i & 1 == 1 && table.records[*i].confirmed).collect();
     let most = random.one_of(&[0, 1, 3, 64]);
     while !places.is_empty() && table.entry_count < most {
@@ -151,14 +146,14 @@ fn put_entries(random: &mut Random, table: &mut PlainTable, room: usize) {
         record.pending_eof |= random.once_in(4);
         record.pending_close |= random.once_in(4);
         let number = record.sender_channel;
-        table.entries[table.entry_count] = PlainEntry { number, left: left as u32, ..any_entry(random) };
+        table.entries[table.entry_count] = Entry { number, left: left as u32, ..any_entry(random) };
         table.entry_count += 1;
         table.queue_used += left;
     }
 }
 
 /// Whole frames in front of staged, none empty.
-fn put_frames(random: &mut Random, table: &mut PlainTable, staged: &mut [u8]) {
+fn put_frames(random: &mut Random, table: &mut Table, staged: &mut [u8]) {
     for _ in 0..random.one_of(&[0, 0, 1, 9]) {
         let at = table.staged_used;
         let length = 1 + random.below(20);
@@ -182,14 +177,14 @@ pub fn sound_state(random: &mut Random) -> State {
     put_entries(random, &mut table, queue.len());
     put_frames(random, &mut table, &mut staged);
     table.sent_used = random.below(sent.len() + 1);
-    State { table, queue, staged, sent }
+    State { last: Reply::with(table), queue, staged, sent }
 }
 
 /// A sound state with one thing changed, which may leave it sound.
 pub fn damaged_state(random: &mut Random) -> State {
     let mut state = sound_state(random);
     let (place, entry) = (random.below(32), random.below(64));
-    let t = &mut state.table;
+    let t = &mut state.last.table;
     match random.below(13) {
         0 => t.used ^= 1 << place,
         1 => t.records[place] = any_record(random),
