@@ -26,6 +26,6 @@ unfolding
     D.keeping D.sending D.flushed D.anyByte D.flushedPart D.eofs D.closes D.unmarked D.flushedWhole D.flushOn D.takenIn D.takenRead D.windowAt D.decide D.load
     T.noneStaged T.goesStraight T.toSent T.toStaged T.needs T.within T.roomFor T.carriedOut T.withRoom T.apply T.stepAct T.stepLoad T.insert T.numbers T.isRefusal T.stopAt T.either T.flushEach T.fitting T.move T.drained T.step
     Raw.placesOf Raw.entriesOf Raw.messagesOf Raw.meaning Raw.zeroRecord Raw.zeroEntry Raw.wordOf Raw.recordsOf Raw.pendingOf Raw.written
-    O.isZero O.unusedZero O.entriesZero O.distinct O.foundConfirmed O.allNamed O.sumLeft O.allMarked O.wholeFrames O.isSound L.whenSound L.called
+    O.isZero O.unusedZero O.isZeroEntry O.entriesZero O.distinct O.foundConfirmed O.allNamed O.sumLeft O.allMarked O.wholeFrames O.isSound L.whenSound L.called
     E.peerWindows E.lengths E.seeing E.seen E.unwritten E.with E.chan E.unconfirmed E.on E.edges E.errors
 each-case = refl

@@ -33,9 +33,12 @@ unfoldable pub unusedZero : ℕ → List Record → Bool
 unusedZero word [] = true
 unusedZero word (r ∷ rs) = (eqb (word % 2) 1 || isZero r) && unusedZero (word / 2) rs
 
+unfoldable pub isZeroEntry : E.Entry → Bool
+isZeroEntry p = every (eqb (p .number .0) 0 ∷ not (p .kind .extended) ∷ eqb (p .kind .code) 0 ∷ eqb (p .left) 0 ∷ [])
+
 unfoldable pub entriesZero : List E.Entry → Bool
 entriesZero [] = true
-entriesZero (p ∷ ps) = every (eqb (p .number .0) 0 ∷ not (p .kind .extended) ∷ eqb (p .kind .code) 0 ∷ eqb (p .left) 0 ∷ entriesZero ps ∷ [])
+entriesZero (p ∷ ps) = isZeroEntry p && entriesZero ps
 
 -- USED NUMBERS ARE DISTINCT
 
