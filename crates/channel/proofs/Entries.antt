@@ -2,6 +2,8 @@
 -- Assumes nothing.
 use Rattle.channel.specs.declared.Record.{Record}
 use Rattle.channel.specs.declared.Kind.{Kind}
+use Rattle.channel.specs.declared.Kind.the-variants.{Extended, Plain}
+use Rattle.channel.specs.declared.StoredKind.{StoredKind}
 use Prim.Native.Nat.{ℕ, zero, suc, _+_, _-_, _≤_}
 use mathlib.Core.Path.{_≡_, refl, sym, ap, _∙_}
 use mathlib.Core.Bool.{Bool, true, false, true≢false}
@@ -12,7 +14,7 @@ use native.Mathlib.Omega.{arith}
 use borrow.Author.Tests.{eqb-true, eq-eqb, ne-eqb}
 use Rattle.laws.proofs.Tests.{by-test}
 use Rattle.channel.specs.Wire.{packets}
-use Rattle.channel.specs.State.{numberOf, peerOf, Entry, anyEntry, without, queued}
+use Rattle.channel.specs.State.{numberOf, peerOf, stored, kindOf, Entry, anyEntry, without, queued}
 use Rattle.channel.specs.Decide.{remainder, Flushed, keeping, sending, flushed}
 use Rattle.channel.proofs.Wire.{NoneEmpty, full-append, packets-full}
 
@@ -70,11 +72,17 @@ Others n es fs = (m : ℕ) → (m ≡ n → ⊥) → own m fs ≡ own m es
 
 -- ONE ENTRY MORE
 
-pub others-one : (n : ℕ) (es : List Entry) (kind : Kind) (bs : List ℕ) → Others n es (es ++ record { number = n; kind = kind; bytes = bs } ∷ [])
+-- its data goes out under the kind that it came in with
+pub kind-back : (kind : Kind) → kindOf (stored kind) ≡ kind
+unfolding stored kindOf
+kind-back Plain = refl
+kind-back (Extended code) = refl
+
+pub others-one : (n : ℕ) (es : List Entry) (kind : StoredKind) (bs : List ℕ) → Others n es (es ++ record { number = n; kind = kind; bytes = bs } ∷ [])
 unfolding Others own
 others-one n es kind bs m h = own-append m es _ ∙ ap (λ l. own m es ++ l) (own-miss m _ [] (ne-eqb n m (λ e. h (sym e)))) ∙ append-nil (own m es)
 
-pub one-there : (n : ℕ) (es : List Entry) (kind : Kind) (bs : List ℕ) → some (own n (es ++ record { number = n; kind = kind; bytes = bs } ∷ [])) ≡ true
+pub one-there : (n : ℕ) (es : List Entry) (kind : StoredKind) (bs : List ℕ) → some (own n (es ++ record { number = n; kind = kind; bytes = bs } ∷ [])) ≡ true
 unfolding own
 one-there n es kind bs = ap some (own-append n es _ ∙ ap (λ l. own n es ++ l) (own-hit n _ [] (eq-eqb n n refl))) ∙ more (own n es) _
   where
@@ -85,7 +93,7 @@ one-there n es kind bs = ap some (own-append n es _ ∙ ap (λ l. own n es ++ l)
 pub others-remainder : (n : ℕ) (es : List Entry) (kind : Kind) (bs : List ℕ) → Others n es (es ++ remainder n kind bs)
 unfolding remainder Others
 others-remainder n es kind [] m h = rw append-nil
-others-remainder n es kind (b ∷ bs) m h = unfold Others in others-one n es kind (b ∷ bs) m h
+others-remainder n es kind (b ∷ bs) m h = unfold Others in others-one n es (stored kind) (b ∷ bs) m h
 
 -- WHAT LEAVES THE QUEUE: of channel n's entries some go, some are cut in front; the others stay
 
@@ -172,14 +180,14 @@ unfolding flushed
 flushed-skip c w e es t = rw (t, flushed)
 
 pub flushed-whole : (c : Record) (w : ℕ) (e : Entry) (es : List Entry) → eqb (e .number) (numberOf c) ≡ true → leb (length (e .bytes)) w ≡ true
-    → flushed c w (e ∷ es) ≡ sending (packets (e .kind) (peerOf c) (c .«recipient_maximum_packet_size») (e .bytes)) (length (e .bytes)) (flushed c (w - length (e .bytes)) es)
+    → flushed c w (e ∷ es) ≡ sending (packets (kindOf (e .kind)) (peerOf c) (c .«recipient_maximum_packet_size») (e .bytes)) (length (e .bytes)) (flushed c (w - length (e .bytes)) es)
 unfolding flushed
 flushed-whole c w e es t u = rw (flushed, t) (rw u)
 
 pub flushed-part : (c : Record) (w : ℕ) (e : Entry) (es : List Entry) → eqb (e .number) (numberOf c) ≡ true → leb (length (e .bytes)) w ≡ false
     → flushed c w (e ∷ es)
     ≡ record {
-      out = packets (e .kind) (peerOf c) (c .«recipient_maximum_packet_size») (take w (e .bytes));
+      out = packets (kindOf (e .kind)) (peerOf c) (c .«recipient_maximum_packet_size») (take w (e .bytes));
       wrote = w;
       window = 0;
       kept = record { number = e .number; kind = e .kind; bytes = drop w (e .bytes) } ∷ es;

@@ -12,14 +12,12 @@ use native.Mathlib.Nat.{pow-suc}
 use borrow.Author.Tests.{eqb-true, eqb-false, leb-true, ltb-true, not-true}
 use Rattle.laws.proofs.Tests.{by-test, shut, and-both, implied}
 use Rattle.laws.proofs.Clauses.{AllTrue, every-of}
-use Rattle.channel.specs.declared.Kind.{Kind}
-use Rattle.channel.specs.declared.Kind.the-variants.{Plain, Extended}
 use Rattle.channel.specs.declared.Record.{Record}
 use Rattle.channel.specs.declared.Entry as E
 use Rattle.channel.specs.Wire.{read32, uint32, frame, frames}
 use Rattle.channel.specs.State.{placeCount, mostEntries, mostBytes, numberOf, Place, vacant, holds, Entry, World, Found, nowhere, found, look, isUsed, anyEntry, queued}
 use Rattle.channel.specs.Raw.{Raw, placesOf, entriesOf, messagesOf, meaning, zeroRecord, zeroEntry, wordOf, recordsOf, pendingOf, written}
-use Rattle.channel.specs.Sound.{isZero, isPlain, unusedZero, entriesZero, distinct, foundConfirmed, allNamed, sumLeft, isMarked, allMarked, wholeFrames, isSound}
+use Rattle.channel.specs.Sound.{isZero, isZeroEntry, unusedZero, entriesZero, distinct, foundConfirmed, allNamed, sumLeft, isMarked, allMarked, wholeFrames, isSound}
 use Rattle.channel.specs.Called.{AllBytes, Typed}
 use Rattle.channel.proofs.Wire.{NoneEmpty, uint32-read}
 use Rattle.channel.proofs.Lookup.{Apart, nothing-found, look-hit, look-miss}
@@ -110,17 +108,22 @@ queued-back zero ps bs h = refl
 queued-back (suc k) [] bs h = absurd (omega arith)
 queued-back (suc k) (p ∷ ps) bs h = ap (λ l. take (p .left) bs ++ l) (queued-back k ps (drop (p .left) bs) (omega arith)) ∙ sym (take-add (p .left) (sumLeft k ps) bs)
 
-plain-is : (k : Kind) → isPlain k ≡ true → Plain ≡ k
-unfolding isPlain
-plain-is Plain e = refl
-plain-is (Extended code) e = absurd (true≢false (sym e))
+zero-entry-is : (p : E.Entry) → isZeroEntry p ≡ true → zeroEntry ≡ p
+unfolding isZeroEntry zeroEntry AllTrue
+zero-entry-is p e =
+    let f = every-of (_ ∷ _ ∷ _ ∷ _ ∷ []) e in
+    λ i. record {
+      number = record { 0 = sym (eqb-true (p .number .0) 0 (f .0)) i };
+      kind = record { extended = sym (not-true (p .kind .extended) (f .1 .0)) i; code = sym (eqb-true (p .kind .code) 0 (f .1 .1 .0)) i };
+      left = sym (eqb-true (p .left) 0 (f .1 .1 .1 .0)) i;
+    }
 
 padding : (ps : List E.Entry) → entriesZero ps ≡ true → replicate (length ps) zeroEntry ≡ ps
-unfolding entriesZero zeroEntry AllTrue
+unfolding entriesZero
 padding [] e = refl
 padding (p ∷ ps) e =
-    let f = every-of (eqb (p .number .0) 0 ∷ isPlain (p .kind) ∷ eqb (p .left) 0 ∷ entriesZero ps ∷ []) e in
-    λ i. record { number = record { 0 = sym (eqb-true (p .number .0) 0 (f .0)) i }; kind = plain-is (p .kind) (f .1 .0) i; left = sym (eqb-true (p .left) 0 (f .1 .1 .0)) i } ∷ padding ps (f .1 .1 .1 .0) i
+    let b = and-both (isZeroEntry p) (entriesZero ps) e in
+    ap₂ (λ x xs. x ∷ xs) (zero-entry-is p (b .0)) (padding ps (b .1))
 
 -- STAGED
 

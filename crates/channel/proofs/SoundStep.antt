@@ -12,7 +12,7 @@ use native.Mathlib.Omega.{arith}
 use borrow.Author.Tests.{leb-true}
 use Rattle.laws.proofs.Tests.{by-test, shut, and-both, or-neither}
 use Rattle.channel.specs.Wire.{frame, frames, eofMessage, closeMessage, adjustMessage}
-use Rattle.channel.specs.State.{mostEntries, mostWindow, numberOf, peerOf, Place, vacant, holds, Entry, Table, World, Found, nowhere, found, look, replace, settleIn, without, anyVacant, isUsed, anyEntry, queued, refit}
+use Rattle.channel.specs.State.{mostEntries, mostWindow, numberOf, peerOf, stored, Place, vacant, holds, Entry, Table, World, Found, nowhere, found, look, replace, settleIn, without, anyVacant, isUsed, anyEntry, queued, refit}
 use Rattle.channel.specs.Call.{Act, newChannel, newChannelId, openForPeer, eof, close, adjust, incoming, windowOf, hasPending, Load, send, flush, Route, Call, act, put, flushAll, flushStaged, drain, Message, confirmation, failure, credit, received, ended, closed, Result, Answer}
 use Rattle.channel.specs.Read.{Read, malformed, reads, readMessage}
 use Rattle.channel.specs.Change.{fresh, confirm, withPeerWindow, withWindow, withMarks, withLast, withPlaces, withEntries, altered, removed}
@@ -136,7 +136,7 @@ module _ (t : Table) (s : SoundTable (t .places) (t .entries)) (size : ℕ) (f :
       → Fits size (t .entries ++ remainder n kind bs)
   unfolding remainder queuesRest
   rest-fits n kind [] last ps e = rw append-nil f
-  rest-fits n kind (b ∷ bs) last ps e = within-fits size (record { last = last; places = ps; entries = t .entries ++ record { number = n; kind = kind; bytes = b ∷ bs } ∷ [] }) n e
+  rest-fits n kind (b ∷ bs) last ps e = within-fits size (record { last = last; places = ps; entries = t .entries ++ record { number = n; kind = stored kind; bytes = b ∷ bs } ∷ [] }) n e
 
   good-send : (n : ℕ) (rekey : Bool) (kind : Kind) (bs : List ℕ) (c : Record) → look n (t .places) ≡ found c → c .confirmed ≡ true → Good size (sendOn t rekey kind bs c)
   unfolding sendOn queueing sendNow altered withPlaces withEntries withPeerWindow Good NoneEmpty
@@ -144,8 +144,8 @@ module _ (t : Table) (s : SoundTable (t .places) (t .entries)) (size : ℕ) (f :
       let g = look-self n c e in
       good-if size (anyEntry (numberOf c) (t .entries) || rekey) _ _
       (λ a. record {
-        table = queue-more (numberOf c) (t .places) (t .entries) _ c s g (others-one (numberOf c) (t .entries) kind bs) (fine-is c _ (record { named = λ x. k; marked = λ x. one-there (numberOf c) (t .entries) kind bs }));
-        fits = λ x. within-fits size (record { last = t .last; places = t .places; entries = t .entries ++ record { number = numberOf c; kind = kind; bytes = bs } ∷ [] }) (numberOf c) x;
+        table = queue-more (numberOf c) (t .places) (t .entries) _ c s g (others-one (numberOf c) (t .entries) (stored kind) bs) (fine-is c _ (record { named = λ x. k; marked = λ x. one-there (numberOf c) (t .entries) (stored kind) bs }));
+        fits = λ x. within-fits size (record { last = t .last; places = t .places; entries = t .entries ++ record { number = numberOf c; kind = stored kind; bytes = bs } ∷ [] }) (numberOf c) x;
         payload = tt;
         control = tt;
       })

@@ -18,7 +18,7 @@ use Rattle.channel.specs.State.{mostEntries, mostBytes, numberOf, Place,
 use Rattle.channel.specs.Call.{Call}
 use Rattle.channel.specs.Step.{step}
 use Rattle.channel.specs.Raw.{Raw, zeroRecord, zeroEntry, wordOf, recordsOf, pendingOf, written}
-use Rattle.channel.specs.Sound.{isZero, isPlain, unusedZero, entriesZero, distinct, foundConfirmed, allNamed, sumLeft, isMarked, allMarked, wholeFrames, isSound}
+use Rattle.channel.specs.Sound.{isZero, isZeroEntry, unusedZero, entriesZero, distinct, foundConfirmed, allNamed, sumLeft, isMarked, allMarked, wholeFrames, isSound}
 use Rattle.channel.specs.Called.{Outcome, whenSound, called}
 use Rattle.channel.proofs.Wire.{NoneEmpty, length-frames, read-uint32}
 use Rattle.channel.proofs.Lookup.{Apart, nothing-found, look-hit, look-miss, look-unused}
@@ -45,7 +45,7 @@ length-pending [] = refl
 length-pending (e ∷ es) = ap suc (length-pending es)
 
 zeros : (n : ℕ) → entriesZero (replicate n zeroEntry) ≡ true
-unfolding entriesZero zeroEntry isPlain every
+unfolding entriesZero isZeroEntry zeroEntry every
 zeros zero = refl
 zeros (suc n) = rw (zeros n)
 

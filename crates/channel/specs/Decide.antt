@@ -9,7 +9,7 @@ use mathlib.Core.List.{List, [], _∷_, _++_}
 use lib.ListN.{length, take, drop}
 use lib.Dec.{leb, ltb, eqb}
 use Rattle.channel.specs.Wire.{packets, eofMessage, closeMessage, adjustMessage}
-use Rattle.channel.specs.State.{placeCount, numbersInAll, mostWindow, numberOf, peerOf, Place, vacant, holds, Entry, Table, Found, nowhere, found, look, replace, settleIn, without, anyVacant, isUsed, anyEntry}
+use Rattle.channel.specs.State.{placeCount, numbersInAll, mostWindow, numberOf, peerOf, stored, kindOf, Place, vacant, holds, Entry, Table, Found, nowhere, found, look, replace, settleIn, without, anyVacant, isUsed, anyEntry}
 use Rattle.channel.specs.Call.{Act, newChannel, newChannelId, openForPeer, eof, close, adjust, incoming, windowOf, hasPending, Load, send, flush, Message, confirmation, failure, credit, received, ended, closed, Result, done, number, framed, adjusted, incomplete, complete, message, windowIs, pendingIs}
 use Rattle.channel.specs.Read.{Read, malformed, reads, readMessage}
 use Rattle.channel.specs.Change.{fresh, confirm, withPeerWindow, withWindow, withMarks, withLast, withPlaces, withEntries, altered, removed}
@@ -79,7 +79,7 @@ nextNumber t = freeFrom (placeCount + 1) (after (t .last)) (t .places)
 -- what the window left over is queued as one entry
 unfoldable pub remainder : ℕ → Kind → List ℕ → List Entry
 remainder n kind [] = []
-remainder n kind (b ∷ bs) = record { number = n; kind = kind; bytes = b ∷ bs } ∷ []
+remainder n kind (b ∷ bs) = record { number = n; kind = stored kind; bytes = b ∷ bs } ∷ []
 
 unfoldable pub queuesRest : ℕ → List ℕ → Queues
 queuesRest n [] = none
@@ -102,7 +102,7 @@ sendNow t kind bs c =
 unfoldable pub sendOn : Table → Bool → Kind → List ℕ → Record → Decision
 sendOn t rekey kind bs c =
     elim (anyEntry (numberOf c) (t .entries) || rekey) [
-      | true ↦ queueing (framed 0) (withEntries t (t .entries ++ record { number = numberOf c; kind = kind; bytes = bs } ∷ [])) (numberOf c)
+      | true ↦ queueing (framed 0) (withEntries t (t .entries ++ record { number = numberOf c; kind = stored kind; bytes = bs } ∷ [])) (numberOf c)
       | false ↦ elim (eqb (length bs) 0) [
         | true ↦ quiet (framed 0) t
         | false ↦ elim (eqb (c .«recipient_maximum_packet_size») 0) [ true ↦ refuse 4 | false ↦ sendNow t kind bs c ]
@@ -163,9 +163,9 @@ flushed c w (e ∷ es) =
     elim (eqb (e .number) (numberOf c)) [
       | false ↦ keeping e (flushed c w es)
       | true ↦ elim (leb (length (e .bytes)) w) [
-        | true ↦ sending (packets (e .kind) (peerOf c) (c .«recipient_maximum_packet_size») (e .bytes)) (length (e .bytes)) (flushed c (w - length (e .bytes)) es)
+        | true ↦ sending (packets (kindOf (e .kind)) (peerOf c) (c .«recipient_maximum_packet_size») (e .bytes)) (length (e .bytes)) (flushed c (w - length (e .bytes)) es)
         | false ↦ record {
-          out = packets (e .kind) (peerOf c) (c .«recipient_maximum_packet_size») (take w (e .bytes));
+          out = packets (kindOf (e .kind)) (peerOf c) (c .«recipient_maximum_packet_size») (take w (e .bytes));
           wrote = w;
           window = 0;
           kept = record { number = e .number; kind = e .kind; bytes = drop w (e .bytes) } ∷ es;

@@ -6,7 +6,7 @@ use Prim.Native.Nat.{ℕ, _-_}
 use mathlib.Core.Bool.{Bool, true, false}
 use mathlib.Core.List.{List, [], _∷_, _++_}
 use lib.ListN.{length, replicate}
-use Rattle.channel.specs.State.{placeCount, Place, vacant, holds, Entry, World, queued}
+use Rattle.channel.specs.State.{placeCount, Place, vacant, holds, stored, Entry, World, queued}
 use Rattle.channel.specs.Call.{Form, straight, staged, Route, Act, newChannel, newChannelId, openForPeer, eof, close, adjust, incoming, windowOf, hasPending, send, flush, Call, act, put, flushAll, flushStaged, drain, confirmation, failure, credit, received, ended, closed, done, held, number, framed, adjusted, incomplete, complete, message, windowIs, pendingIs, Answer, refused, stopped, gave, moved}
 use Rattle.channel.specs.Change.{fresh, confirm, withMarks}
 use Rattle.channel.specs.Step.{numbers}
@@ -277,7 +277,7 @@ edges =
     }
     -- last byte, both marks, writer form, staged empty, no rekey: 14 bytes sent, 18 staged, record gone
     ∷ record {
-      world = with 2 (chan 2 64 9 9 true ∷ []) (record { number = 2; kind = Plain; bytes = 1 ∷ [] } ∷ []);
+      world = with 2 (chan 2 64 9 9 true ∷ []) (record { number = 2; kind = stored Plain; bytes = 1 ∷ [] } ∷ []);
       calls = put (on straight false) (flush 2) ∷ [];
       sees =
           record {
@@ -294,7 +294,7 @@ edges =
     }
     -- channel 2 at limit 0 with a byte pending, 3 ready: flush of all stops at 2, 3 untouched
     ∷ record {
-      world = with 3 (chan 3 64 9 9 false ∷ chan 2 64 9 0 false ∷ []) (record { number = 3; kind = Plain; bytes = 1 ∷ [] } ∷ record { number = 2; kind = Plain; bytes = 2 ∷ [] } ∷ []);
+      world = with 3 (chan 3 64 9 9 false ∷ chan 2 64 9 0 false ∷ []) (record { number = 3; kind = stored Plain; bytes = 1 ∷ [] } ∷ record { number = 2; kind = stored Plain; bytes = 2 ∷ [] } ∷ []);
       calls = flushAll (on straight false) ∷ [];
       sees =
           record {
@@ -333,7 +333,7 @@ errors =
     }
     -- Limit is not checked where the data is only queued
     ∷ record {
-      world = with 2 (chan 2 64 9 0 false ∷ []) (record { number = 2; kind = Plain; bytes = 1 ∷ [] } ∷ []);
+      world = with 2 (chan 2 64 9 0 false ∷ []) (record { number = 2; kind = stored Plain; bytes = 1 ∷ [] } ∷ []);
       calls = put (on staged false) (send Plain 2 (2 ∷ [])) ∷ [];
       sees =
           record {
@@ -384,7 +384,7 @@ errors =
     }
     -- the remainder's room is asked with the frames': 60 bytes at window 4, then 64 left of 64
     ∷ record {
-      world = with 2 (chan 2 64 4 9 false ∷ chan 3 64 0 9 false ∷ []) (record { number = 3; kind = Plain; bytes = 7 ∷ [] } ∷ []);
+      world = with 2 (chan 2 64 4 9 false ∷ chan 3 64 0 9 false ∷ []) (record { number = 3; kind = stored Plain; bytes = 7 ∷ [] } ∷ []);
       calls = put (on staged false) (send Plain 2 (replicate 68 1)) ∷ put (on staged false) (send Plain 2 (replicate 67 1)) ∷ [];
       sees =
           record {
@@ -401,7 +401,7 @@ errors =
     }
     -- EOF stays a mark while an entry remains, and goes out behind it
     ∷ record {
-      world = with 2 (chan 2 64 0 9 false ∷ []) (record { number = 2; kind = Plain; bytes = 1 ∷ [] } ∷ []);
+      world = with 2 (chan 2 64 0 9 false ∷ []) (record { number = 2; kind = stored Plain; bytes = 1 ∷ [] } ∷ []);
       calls = act (eof 2) ∷ put (on straight false) (flush 2) ∷ act (incoming (93 ∷ 0 ∷ 0 ∷ 0 ∷ 2 ∷ 0 ∷ 0 ∷ 0 ∷ 3 ∷ [])) ∷ put (on straight false) (flush 2) ∷ [];
       sees =
           record {
@@ -418,7 +418,7 @@ errors =
     }
     -- a flush cuts an entry, closes the queue up and zeroes its tail; other channels' entries stay
     ∷ record {
-      world = with 3 (chan 2 64 3 9 false ∷ chan 3 64 9 9 false ∷ []) (record { number = 2; kind = Plain; bytes = 1 ∷ 2 ∷ [] } ∷ record { number = 3; kind = Plain; bytes = 3 ∷ [] } ∷ record { number = 2; kind = Plain; bytes = [] } ∷ record { number = 2; kind = Plain; bytes = 4 ∷ 5 ∷ [] } ∷ []);
+      world = with 3 (chan 2 64 3 9 false ∷ chan 3 64 9 9 false ∷ []) (record { number = 2; kind = stored Plain; bytes = 1 ∷ 2 ∷ [] } ∷ record { number = 3; kind = stored Plain; bytes = 3 ∷ [] } ∷ record { number = 2; kind = stored Plain; bytes = [] } ∷ record { number = 2; kind = stored Plain; bytes = 4 ∷ 5 ∷ [] } ∷ []);
       calls = put (on staged false) (flush 2) ∷ [];
       sees =
           record {
@@ -435,7 +435,7 @@ errors =
     }
     -- an incoming CLOSE stages one, and drops the record and its entries
     ∷ record {
-      world = with 3 (chan 2 64 9 9 true ∷ chan 3 64 9 9 false ∷ []) (record { number = 2; kind = Plain; bytes = 1 ∷ [] } ∷ record { number = 3; kind = Plain; bytes = 2 ∷ [] } ∷ record { number = 2; kind = Plain; bytes = 3 ∷ [] } ∷ []);
+      world = with 3 (chan 2 64 9 9 true ∷ chan 3 64 9 9 false ∷ []) (record { number = 2; kind = stored Plain; bytes = 1 ∷ [] } ∷ record { number = 3; kind = stored Plain; bytes = 2 ∷ [] } ∷ record { number = 2; kind = stored Plain; bytes = 3 ∷ [] } ∷ []);
       calls = act (incoming (97 ∷ 0 ∷ 0 ∷ 0 ∷ 2 ∷ [])) ∷ act (incoming (97 ∷ 0 ∷ 0 ∷ 0 ∷ 2 ∷ [])) ∷ [];
       sees =
           record {

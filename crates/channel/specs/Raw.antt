@@ -5,7 +5,6 @@ use mathlib.Core.Bool.{Bool, true, false, cond}
 use mathlib.Core.List.{List, [], _∷_, _++_}
 use lib.ListN.{length, take, drop, replicate}
 use lib.Dec.{eqb}
-use Rattle.channel.specs.declared.Kind.the-variants.{Plain}
 use Rattle.channel.specs.declared.Record.{Record}
 use Rattle.channel.specs.declared.Entry as E
 use Rattle.channel.specs.declared.Table as D
@@ -73,7 +72,7 @@ zeroRecord =
     }
 
 unfoldable pub zeroEntry : E.Entry
-zeroEntry = record { number = record { 0 = 0 }; kind = Plain; left = 0 }
+zeroEntry = record { number = record { 0 = 0 }; kind = record { extended = false; code = 0 }; left = 0 }
 
 unfoldable pub wordOf : List Place → ℕ
 wordOf [] = 0

@@ -5,8 +5,6 @@ use mathlib.Core.Bool.{Bool, true, false, _&&_, _||_, not}
 use mathlib.Core.List.{List, [], _∷_}
 use lib.ListN.{length, take, drop}
 use lib.Dec.{leb, ltb, eqb}
-use Rattle.channel.specs.declared.Kind.{Kind}
-use Rattle.channel.specs.declared.Kind.the-variants.{Plain, Extended}
 use Rattle.channel.specs.declared.Record.{Record}
 use Rattle.channel.specs.declared.Entry as E
 use Rattle.laws.specs.Clauses.{every}
@@ -35,13 +33,12 @@ unfoldable pub unusedZero : ℕ → List Record → Bool
 unusedZero word [] = true
 unusedZero word (r ∷ rs) = (eqb (word % 2) 1 || isZero r) && unusedZero (word / 2) rs
 
-unfoldable pub isPlain : Kind → Bool
-isPlain Plain = true
-isPlain (Extended code) = false
+unfoldable pub isZeroEntry : E.Entry → Bool
+isZeroEntry p = every (eqb (p .number .0) 0 ∷ not (p .kind .extended) ∷ eqb (p .kind .code) 0 ∷ eqb (p .left) 0 ∷ [])
 
 unfoldable pub entriesZero : List E.Entry → Bool
 entriesZero [] = true
-entriesZero (p ∷ ps) = every (eqb (p .number .0) 0 ∷ isPlain (p .kind) ∷ eqb (p .left) 0 ∷ entriesZero ps ∷ [])
+entriesZero (p ∷ ps) = isZeroEntry p && entriesZero ps
 
 -- USED NUMBERS ARE DISTINCT
 

@@ -3,6 +3,8 @@
 -- Assumes nothing.
 use Rattle.channel.specs.declared.Record.{Record}
 use Rattle.channel.specs.declared.Kind.{Kind}
+use Rattle.channel.specs.declared.Kind.the-variants.{Extended, Plain}
+use Rattle.channel.specs.declared.StoredKind.{StoredKind}
 use Prim.Native.Nat.{ℕ, zero, suc, _+_, _-_}
 use mathlib.Core.Bool.{Bool, true, false, _||_}
 use mathlib.Core.List.{List, [], _∷_, _++_}
@@ -33,10 +35,19 @@ pub data Place : Type 0 where
   vacant : Place
   holds : Record → Place
 
+-- a kind as an entry holds it: plain data has code 0
+unfoldable pub stored : Kind → StoredKind
+stored Plain = record { extended = false; code = 0 }
+stored (Extended code) = record { extended = true; code = code }
+
+-- and the kind that it stands for: of plain data the code is not looked at
+unfoldable pub kindOf : StoredKind → Kind
+kindOf s = elim (s .extended) [ true ↦ Extended (s .code) | false ↦ Plain ]
+
 -- a pending entry with its bytes
 pub record Entry : Type 0 where
   pub number : ℕ
-  pub kind : Kind
+  pub kind : StoredKind
   pub bytes : List ℕ
 
 pub record Table : Type 0 where

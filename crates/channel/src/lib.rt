@@ -1,15 +1,19 @@
 // The types of the table. The definition of every call over it is in specs/, and the theorems over the definition in proofs/.
 
 ghost use mathlib.Core.Path.{_≡_};
+ghost use Rattle.channel.specs.State as S;
 ghost use Rattle.channel.specs.Raw.{emptyTable, zeroRecord, zeroEntry};
 
 // A channel's number at this end.
+#[repr(C)]
 pub struct ChannelId(pub u32);
 
 // A channel's number at the peer's end.
+#[repr(C)]
 pub struct PeerNumber(pub u32);
 
 // One channel: the fields of `ChannelParams` less its queue.
+#[repr(C)]
 pub struct Record {
     pub recipient_channel: PeerNumber,
     pub sender_channel: ChannelId,
@@ -29,14 +33,24 @@ pub enum Kind {
     Extended(u32),
 }
 
+// Which data an entry holds, in numbers, so that a table can stand in an exported type: plain, or extended with a code. Of plain data the
+// code is not looked at; the calls store 0.
+#[repr(C)]
+pub struct StoredKind {
+    pub extended: bool,
+    pub code: u32,
+}
+
 // One pending entry; its bytes stand in the lent queue.
+#[repr(C)]
 pub struct Entry {
     pub number: ChannelId,
-    pub kind: Kind,
+    pub kind: StoredKind,
     pub left: u32,
 }
 
 // The whole table: bit i of `used` says whether place i holds a record. The counts are those of the three lent buffers.
+#[repr(C)]
 pub struct Table {
     pub used: u32,
     pub last: u32,
@@ -199,8 +213,38 @@ pub fn zero_entry() -> Entry
 {
     Entry {
         number: ChannelId(0),
-        kind: Kind::Plain,
+        kind: StoredKind {
+            extended: false,
+            code: 0,
+        },
         left: 0,
+    }
+}
+
+// A kind as an entry holds it.
+pub fn stored(kind: Kind) -> StoredKind
+    ensures { λ r. ⌜ r ≡ S.stored kind ⌝ }
+{
+    match kind {
+        Kind::Plain => StoredKind {
+            extended: false,
+            code: 0,
+        },
+        Kind::Extended(code) => StoredKind {
+            extended: true,
+            code,
+        },
+    }
+}
+
+// The kind that an entry's data goes out under.
+pub fn kind_of(s: StoredKind) -> Kind
+    ensures { λ r. ⌜ r ≡ S.kindOf s ⌝ }
+{
+    if s.extended {
+        Kind::Extended(s.code)
+    } else {
+        Kind::Plain
     }
 }
 

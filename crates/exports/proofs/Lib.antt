@@ -1,3 +1,1 @@
-pub mod Fill
 pub mod Told
-pub mod Back

@@ -2,16 +2,9 @@
 -- Assumes nothing.
 use Prim.Native.Nat.{ℕ}
 use mathlib.Core.List.{List}
-use Rattle.channel.specs.declared.Table.{Table}
 use Rattle.channel.specs.Called.{Outcome}
-use Rattle.answers.specs.declared.Numbers.{Numbers}
-use Rattle.exports.specs.declared.Reply.{Reply}
-use Rattle.exports.specs.Plain.{plainTable}
 use Rattle.answers.specs.Numbers.{numbersOf}
-
--- the answer's numbers and the table in numbers
-unfoldable pub replyOf : Numbers → Table → Reply
-replyOf n t = record { answer = n; table = plainTable t }
+use Rattle.exports.specs.declared.Reply.{Reply}
 
 -- what a call leaves
 pub record Left : Type 0 where
@@ -23,6 +16,6 @@ pub record Left : Type 0 where
 abbrev pub left : Reply → List ℕ → List ℕ → List ℕ → Left
 left r queue staged sent = record { reply = r; queue = queue; staged = staged; sent = sent }
 
--- the definition's outcome, as it is told
+-- the definition's outcome, as it is told: the answer in numbers, the table as it is
 unfoldable pub told : Outcome → Left
-told o = left (replyOf (numbersOf (o .answer)) (o .state .held)) (o .state .queue) (o .state .staged) (o .state .sent)
+told o = left (record { answer = numbersOf (o .answer); table = o .state .held }) (o .state .queue) (o .state .staged) (o .state .sent)

@@ -1,16 +1,13 @@
 // The calls for a program in another language, each under its plain name with the prefix `oxenhush_`. A table goes in by value and comes back
-// by value, as C passes a struct. Every value of its numbers is taken: where the state is not sound the answer is 1, and nothing changes save
-// kinds and codes in another form than the library's (`PlainEntry`).
+// by value, as C passes a struct. Every value of its numbers is taken: where the state is not sound the answer is 1, and nothing changes.
 //
 // What a caller must keep, and nothing more is relied on:
 // - a slice is a pointer and a length: the pointer is not null, also for length 0, and that many bytes are there during the call;
 // - a buffer lent as `&mut` overlaps no other buffer of the same call;
-// - a bool is 0 or 1, also within the table;
-// - the structs have C's layout, with the fields in the order given here.
-mod plain;
+// - a bool is 0 or 1, also within the table: four in each record, and `extended` in each entry;
+// - the structs have C's layout, with the fields in the order given: `Reply` here, `Numbers` in crate `answers`, and `Table`, `Record`, `Entry`
+//   and `StoredKind` in crate `channel`, where `ChannelId` and `PeerNumber` are one 32-bit number each.
 
-use crate::plain::plain_table;
-use crate::plain::table_of;
 use answers::Numbers;
 use answers::of_acted;
 use answers::of_all;
@@ -25,45 +22,33 @@ use answers::of_window;
 use channel::ChannelId;
 use channel::PeerNumber;
 use channel::Table;
-pub use plain::PlainEntry;
-pub use plain::PlainRecord;
-pub use plain::PlainTable;
 ghost use mathlib.Core.Path.{_≡_};
 ghost use mathlib.Core.Bool.{false};
 ghost use Rattle.channel.specs.declared.Kind.the-variants as K;
 ghost use Rattle.channel.specs.Call as C;
 ghost use Rattle.channel.specs.Called.{lent, called};
 ghost use Rattle.channel.specs.Raw.{emptyTable};
-ghost use Rattle.exports.specs.Plain.{tableOf, plainTable};
-ghost use Rattle.exports.specs.Told.{replyOf, left, told};
+ghost use Rattle.exports.specs.Told.{left, told};
 
 // What every call gives back: its answer in numbers, and the table.
 #[repr(C)]
 pub struct Reply {
     pub answer: Numbers,
-    pub table: PlainTable,
-}
-
-// The answer's numbers beside the table in numbers.
-fn replied(answer: Numbers, t: Table) -> Reply
-    ensures { λ r. ⌜ r ≡ replyOf answer t ⌝ }
-{
-    let table = plain_table(t);
-    Reply { answer, table }
+    pub table: Table,
 }
 
 // The empty table.
 #[no_mangle]
-pub extern "C" fn oxenhush_table_new() -> PlainTable
-    ensures { λ r. ⌜ r ≡ plainTable emptyTable ⌝ }
+pub extern "C" fn oxenhush_table_new() -> Table
+    ensures { λ r. ⌜ r ≡ emptyTable ⌝ }
 {
-    plain_table(Table::new())
+    Table::new()
 }
 
 // Opens a record at the first free number after the last. Value: the number.
 #[no_mangle]
 pub extern "C" fn oxenhush_new_channel(
-    t: PlainTable,
+    t: Table,
     queue: &[u8],
     staged: &[u8],
     sent: &[u8],
@@ -72,40 +57,44 @@ pub extern "C" fn oxenhush_new_channel(
 ) -> Reply
     ensures { λ r. ⌜
         left r (now (queue .exit)) (now (staged .exit)) (now (sent .exit))
-        ≡ told (called (lent (tableOf t) (now (queue .entry)) (now (staged .entry)) (now (sent .entry))) (C.act (C.newChannel «window_size» maxpacket)))
+        ≡ told (called (lent t (now (queue .entry)) (now (staged .entry)) (now (sent .entry))) (C.act (C.newChannel «window_size» maxpacket)))
         ⌝ }
 {
-    let inner = table_of(t);
-    let o = numbers::new_channel(inner, queue, staged, sent, window_size, maxpacket);
-    let answer = o.answer;
-    let next = o.table;
-    replied(of_picked(answer), next)
+    let picked = numbers::new_channel(t, queue, staged, sent, window_size, maxpacket);
+    let answer = picked.answer;
+    let table = picked.table;
+    Reply {
+        answer: of_picked(answer),
+        table,
+    }
 }
 
 // Picks a number in the same way and opens nothing. Value: the number.
 #[no_mangle]
 pub extern "C" fn oxenhush_new_channel_id(
-    t: PlainTable,
+    t: Table,
     queue: &[u8],
     staged: &[u8],
     sent: &[u8],
 ) -> Reply
     ensures { λ r. ⌜
         left r (now (queue .exit)) (now (staged .exit)) (now (sent .exit))
-        ≡ told (called (lent (tableOf t) (now (queue .entry)) (now (staged .entry)) (now (sent .entry))) (C.act C.newChannelId))
+        ≡ told (called (lent t (now (queue .entry)) (now (staged .entry)) (now (sent .entry))) (C.act C.newChannelId))
         ⌝ }
 {
-    let inner = table_of(t);
-    let o = numbers::new_channel_id(inner, queue, staged, sent);
-    let answer = o.answer;
-    let next = o.table;
-    replied(of_picked(answer), next)
+    let picked = numbers::new_channel_id(t, queue, staged, sent);
+    let answer = picked.answer;
+    let table = picked.table;
+    Reply {
+        answer: of_picked(answer),
+        table,
+    }
 }
 
 // Opens a confirmed record at a number that the caller gives. No value.
 #[no_mangle]
 pub extern "C" fn oxenhush_open_for_peer(
-    t: PlainTable,
+    t: Table,
     queue: &[u8],
     staged: &[u8],
     sent: &[u8],
@@ -118,12 +107,11 @@ pub extern "C" fn oxenhush_open_for_peer(
 ) -> Reply
     ensures { λ r. ⌜
         left r (now (queue .exit)) (now (staged .exit)) (now (sent .exit))
-        ≡ told (called (lent (tableOf t) (now (queue .entry)) (now (staged .entry)) (now (sent .entry))) (C.act (C.openForPeer number peer «window_size» maxpacket «peer_window» «peer_maxpacket»)))
+        ≡ told (called (lent t (now (queue .entry)) (now (staged .entry)) (now (sent .entry))) (C.act (C.openForPeer number peer «window_size» maxpacket «peer_window» «peer_maxpacket»)))
         ⌝ }
 {
-    let inner = table_of(t);
-    let o = numbers::open_for_peer(
-        inner,
+    let opened = numbers::open_for_peer(
+        t,
         queue,
         staged,
         sent,
@@ -134,15 +122,18 @@ pub extern "C" fn oxenhush_open_for_peer(
         peer_window,
         peer_maxpacket,
     );
-    let answer = o.answer;
-    let next = o.table;
-    replied(of_acted(answer), next)
+    let answer = opened.answer;
+    let table = opened.table;
+    Reply {
+        answer: of_acted(answer),
+        table,
+    }
 }
 
 // Data in packets into staged; what the window leaves over is queued. Value: the bytes framed now.
 #[no_mangle]
 pub extern "C" fn oxenhush_data(
-    t: PlainTable,
+    t: Table,
     queue: &mut [u8],
     staged: &mut [u8],
     sent: &[u8],
@@ -152,20 +143,22 @@ pub extern "C" fn oxenhush_data(
 ) -> Reply
     ensures { λ r. ⌜
         left r (now (queue .exit)) (now (staged .exit)) (now (sent .exit))
-        ≡ told (called (lent (tableOf t) (now (queue .entry)) (now (staged .entry)) (now (sent .entry))) (C.put (record { form = C.staged; rekey = rekey }) (C.send K.Plain number (now (buf .entry)))))
+        ≡ told (called (lent t (now (queue .entry)) (now (staged .entry)) (now (sent .entry))) (C.put (record { form = C.staged; rekey = rekey }) (C.send K.Plain number (now (buf .entry)))))
         ⌝ }
 {
-    let inner = table_of(t);
-    let o = sending::data(inner, queue, staged, sent, ChannelId(number), buf, rekey);
-    let answer = o.answer;
-    let next = o.table;
-    replied(of_sent(answer), next)
+    let framed = sending::data(t, queue, staged, sent, ChannelId(number), buf, rekey);
+    let answer = framed.answer;
+    let table = framed.table;
+    Reply {
+        answer: of_sent(answer),
+        table,
+    }
 }
 
 // The same, into sent where nothing is staged.
 #[no_mangle]
 pub extern "C" fn oxenhush_data_with_writer(
-    t: PlainTable,
+    t: Table,
     queue: &mut [u8],
     staged: &mut [u8],
     sent: &mut [u8],
@@ -175,20 +168,22 @@ pub extern "C" fn oxenhush_data_with_writer(
 ) -> Reply
     ensures { λ r. ⌜
         left r (now (queue .exit)) (now (staged .exit)) (now (sent .exit))
-        ≡ told (called (lent (tableOf t) (now (queue .entry)) (now (staged .entry)) (now (sent .entry))) (C.put (record { form = C.straight; rekey = rekey }) (C.send K.Plain number (now (buf .entry)))))
+        ≡ told (called (lent t (now (queue .entry)) (now (staged .entry)) (now (sent .entry))) (C.put (record { form = C.straight; rekey = rekey }) (C.send K.Plain number (now (buf .entry)))))
         ⌝ }
 {
-    let inner = table_of(t);
-    let o = sending::data_with_writer(inner, queue, staged, sent, ChannelId(number), buf, rekey);
-    let answer = o.answer;
-    let next = o.table;
-    replied(of_sent(answer), next)
+    let framed = sending::data_with_writer(t, queue, staged, sent, ChannelId(number), buf, rekey);
+    let answer = framed.answer;
+    let table = framed.table;
+    Reply {
+        answer: of_sent(answer),
+        table,
+    }
 }
 
 // Extended data with its code, into staged. Value: the bytes framed now.
 #[no_mangle]
 pub extern "C" fn oxenhush_extended_data(
-    t: PlainTable,
+    t: Table,
     queue: &mut [u8],
     staged: &mut [u8],
     sent: &[u8],
@@ -199,29 +194,22 @@ pub extern "C" fn oxenhush_extended_data(
 ) -> Reply
     ensures { λ r. ⌜
         left r (now (queue .exit)) (now (staged .exit)) (now (sent .exit))
-        ≡ told (called (lent (tableOf t) (now (queue .entry)) (now (staged .entry)) (now (sent .entry))) (C.put (record { form = C.staged; rekey = rekey }) (C.send (K.Extended ext) number (now (buf .entry)))))
+        ≡ told (called (lent t (now (queue .entry)) (now (staged .entry)) (now (sent .entry))) (C.put (record { form = C.staged; rekey = rekey }) (C.send (K.Extended ext) number (now (buf .entry)))))
         ⌝ }
 {
-    let inner = table_of(t);
-    let o = sending::extended_data(
-        inner,
-        queue,
-        staged,
-        sent,
-        ChannelId(number),
-        ext,
-        buf,
-        rekey,
-    );
-    let answer = o.answer;
-    let next = o.table;
-    replied(of_sent(answer), next)
+    let framed = sending::extended_data(t, queue, staged, sent, ChannelId(number), ext, buf, rekey);
+    let answer = framed.answer;
+    let table = framed.table;
+    Reply {
+        answer: of_sent(answer),
+        table,
+    }
 }
 
 // The same, into sent where nothing is staged.
 #[no_mangle]
 pub extern "C" fn oxenhush_extended_data_with_writer(
-    t: PlainTable,
+    t: Table,
     queue: &mut [u8],
     staged: &mut [u8],
     sent: &mut [u8],
@@ -232,12 +220,11 @@ pub extern "C" fn oxenhush_extended_data_with_writer(
 ) -> Reply
     ensures { λ r. ⌜
         left r (now (queue .exit)) (now (staged .exit)) (now (sent .exit))
-        ≡ told (called (lent (tableOf t) (now (queue .entry)) (now (staged .entry)) (now (sent .entry))) (C.put (record { form = C.straight; rekey = rekey }) (C.send (K.Extended ext) number (now (buf .entry)))))
+        ≡ told (called (lent t (now (queue .entry)) (now (staged .entry)) (now (sent .entry))) (C.put (record { form = C.straight; rekey = rekey }) (C.send (K.Extended ext) number (now (buf .entry)))))
         ⌝ }
 {
-    let inner = table_of(t);
-    let o = sending::extended_data_with_writer(
-        inner,
+    let framed = sending::extended_data_with_writer(
+        t,
         queue,
         staged,
         sent,
@@ -246,15 +233,18 @@ pub extern "C" fn oxenhush_extended_data_with_writer(
         buf,
         rekey,
     );
-    let answer = o.answer;
-    let next = o.table;
-    replied(of_sent(answer), next)
+    let answer = framed.answer;
+    let table = framed.table;
+    Reply {
+        answer: of_sent(answer),
+        table,
+    }
 }
 
 // No more data will come on the channel. No value.
 #[no_mangle]
 pub extern "C" fn oxenhush_eof(
-    t: PlainTable,
+    t: Table,
     queue: &[u8],
     staged: &mut [u8],
     sent: &[u8],
@@ -262,20 +252,22 @@ pub extern "C" fn oxenhush_eof(
 ) -> Reply
     ensures { λ r. ⌜
         left r (now (queue .exit)) (now (staged .exit)) (now (sent .exit))
-        ≡ told (called (lent (tableOf t) (now (queue .entry)) (now (staged .entry)) (now (sent .entry))) (C.act (C.eof number)))
+        ≡ told (called (lent t (now (queue .entry)) (now (staged .entry)) (now (sent .entry))) (C.act (C.eof number)))
         ⌝ }
 {
-    let inner = table_of(t);
-    let o = ending::eof(inner, queue, staged, sent, ChannelId(number));
-    let answer = o.answer;
-    let next = o.table;
-    replied(of_acted(answer), next)
+    let ended = ending::eof(t, queue, staged, sent, ChannelId(number));
+    let answer = ended.answer;
+    let table = ended.table;
+    Reply {
+        answer: of_acted(answer),
+        table,
+    }
 }
 
 // The channel is closed at this end. No value.
 #[no_mangle]
 pub extern "C" fn oxenhush_close(
-    t: PlainTable,
+    t: Table,
     queue: &[u8],
     staged: &mut [u8],
     sent: &[u8],
@@ -283,20 +275,22 @@ pub extern "C" fn oxenhush_close(
 ) -> Reply
     ensures { λ r. ⌜
         left r (now (queue .exit)) (now (staged .exit)) (now (sent .exit))
-        ≡ told (called (lent (tableOf t) (now (queue .entry)) (now (staged .entry)) (now (sent .entry))) (C.act (C.close number)))
+        ≡ told (called (lent t (now (queue .entry)) (now (staged .entry)) (now (sent .entry))) (C.act (C.close number)))
         ⌝ }
 {
-    let inner = table_of(t);
-    let o = ending::close(inner, queue, staged, sent, ChannelId(number));
-    let answer = o.answer;
-    let next = o.table;
-    replied(of_acted(answer), next)
+    let ended = ending::close(t, queue, staged, sent, ChannelId(number));
+    let answer = ended.answer;
+    let table = ended.table;
+    Reply {
+        answer: of_acted(answer),
+        table,
+    }
 }
 
 // n bytes were received on the channel. Value: 1 if a WINDOW_ADJUST was staged, else 0.
 #[no_mangle]
 pub extern "C" fn oxenhush_adjust_window_size(
-    t: PlainTable,
+    t: Table,
     queue: &[u8],
     staged: &mut [u8],
     sent: &[u8],
@@ -306,20 +300,22 @@ pub extern "C" fn oxenhush_adjust_window_size(
 ) -> Reply
     ensures { λ r. ⌜
         left r (now (queue .exit)) (now (staged .exit)) (now (sent .exit))
-        ≡ told (called (lent (tableOf t) (now (queue .entry)) (now (staged .entry)) (now (sent .entry))) (C.act (C.adjust number n target)))
+        ≡ told (called (lent t (now (queue .entry)) (now (staged .entry)) (now (sent .entry))) (C.act (C.adjust number n target)))
         ⌝ }
 {
-    let inner = table_of(t);
-    let o = window::adjust_window_size(inner, queue, staged, sent, ChannelId(number), n, target);
-    let answer = o.answer;
-    let next = o.table;
-    replied(of_charged(answer), next)
+    let charged = window::adjust_window_size(t, queue, staged, sent, ChannelId(number), n, target);
+    let answer = charged.answer;
+    let table = charged.table;
+    Reply {
+        answer: of_charged(answer),
+        table,
+    }
 }
 
 // The receive window, 0 for an unknown number. Value: that window.
 #[no_mangle]
 pub extern "C" fn oxenhush_sender_window_size(
-    t: PlainTable,
+    t: Table,
     queue: &[u8],
     staged: &[u8],
     sent: &[u8],
@@ -327,18 +323,20 @@ pub extern "C" fn oxenhush_sender_window_size(
 ) -> Reply
     ensures { λ r. ⌜
         left r (now (queue .exit)) (now (staged .exit)) (now (sent .exit))
-        ≡ told (called (lent (tableOf t) (now (queue .entry)) (now (staged .entry)) (now (sent .entry))) (C.act (C.windowOf number)))
+        ≡ told (called (lent t (now (queue .entry)) (now (staged .entry)) (now (sent .entry))) (C.act (C.windowOf number)))
         ⌝ }
 {
-    let inner = table_of(t);
-    let answer = window::sender_window_size(inner, queue, staged, sent, ChannelId(number));
-    replied(of_window(answer), inner)
+    let answer = window::sender_window_size(t, queue, staged, sent, ChannelId(number));
+    Reply {
+        answer: of_window(answer),
+        table: t,
+    }
 }
 
 // Whether the channel has an entry, no for an unknown number. Value: 1 or 0.
 #[no_mangle]
 pub extern "C" fn oxenhush_has_pending_data(
-    t: PlainTable,
+    t: Table,
     queue: &[u8],
     staged: &[u8],
     sent: &[u8],
@@ -346,18 +344,20 @@ pub extern "C" fn oxenhush_has_pending_data(
 ) -> Reply
     ensures { λ r. ⌜
         left r (now (queue .exit)) (now (staged .exit)) (now (sent .exit))
-        ≡ told (called (lent (tableOf t) (now (queue .entry)) (now (staged .entry)) (now (sent .entry))) (C.act (C.hasPending number)))
+        ≡ told (called (lent t (now (queue .entry)) (now (staged .entry)) (now (sent .entry))) (C.act (C.hasPending number)))
         ⌝ }
 {
-    let inner = table_of(t);
-    let answer = window::has_pending_data(inner, queue, staged, sent, ChannelId(number));
-    replied(of_pending(answer), inner)
+    let answer = window::has_pending_data(t, queue, staged, sent, ChannelId(number));
+    Reply {
+        answer: of_pending(answer),
+        table: t,
+    }
 }
 
 // The pending flush of one channel into staged. Values: 1, the bytes framed and the two marks if complete, else 0 and the bytes framed.
 #[no_mangle]
 pub extern "C" fn oxenhush_flush_pending(
-    t: PlainTable,
+    t: Table,
     queue: &mut [u8],
     staged: &mut [u8],
     sent: &[u8],
@@ -365,20 +365,22 @@ pub extern "C" fn oxenhush_flush_pending(
 ) -> Reply
     ensures { λ r. ⌜
         left r (now (queue .exit)) (now (staged .exit)) (now (sent .exit))
-        ≡ told (called (lent (tableOf t) (now (queue .entry)) (now (staged .entry)) (now (sent .entry))) (C.put (record { form = C.staged; rekey = false }) (C.flush number)))
+        ≡ told (called (lent t (now (queue .entry)) (now (staged .entry)) (now (sent .entry))) (C.put (record { form = C.staged; rekey = false }) (C.flush number)))
         ⌝ }
 {
-    let inner = table_of(t);
-    let o = pending::flush_pending(inner, queue, staged, sent, ChannelId(number));
-    let answer = o.answer;
-    let next = o.table;
-    replied(of_flushed(answer), next)
+    let flushed = pending::flush_pending(t, queue, staged, sent, ChannelId(number));
+    let answer = flushed.answer;
+    let table = flushed.table;
+    Reply {
+        answer: of_flushed(answer),
+        table,
+    }
 }
 
 // The same, straight into sent while staged is empty and rekey is off.
 #[no_mangle]
 pub extern "C" fn oxenhush_flush_pending_with_writer(
-    t: PlainTable,
+    t: Table,
     queue: &mut [u8],
     staged: &mut [u8],
     sent: &mut [u8],
@@ -387,47 +389,51 @@ pub extern "C" fn oxenhush_flush_pending_with_writer(
 ) -> Reply
     ensures { λ r. ⌜
         left r (now (queue .exit)) (now (staged .exit)) (now (sent .exit))
-        ≡ told (called (lent (tableOf t) (now (queue .entry)) (now (staged .entry)) (now (sent .entry))) (C.put (record { form = C.straight; rekey = rekey }) (C.flush number)))
+        ≡ told (called (lent t (now (queue .entry)) (now (staged .entry)) (now (sent .entry))) (C.put (record { form = C.straight; rekey = rekey }) (C.flush number)))
         ⌝ }
 {
-    let inner = table_of(t);
-    let o = pending::flush_pending_with_writer(
-        inner,
+    let flushed = pending::flush_pending_with_writer(
+        t,
         queue,
         staged,
         sent,
         ChannelId(number),
         rekey,
     );
-    let answer = o.answer;
-    let next = o.table;
-    replied(of_flushed(answer), next)
+    let answer = flushed.answer;
+    let table = flushed.table;
+    Reply {
+        answer: of_flushed(answer),
+        table,
+    }
 }
 
 // The pending flush of all channels into staged, in ascending number. Value beside a refusal: the channel that it stopped at.
 #[no_mangle]
 pub extern "C" fn oxenhush_flush_all_pending(
-    t: PlainTable,
+    t: Table,
     queue: &mut [u8],
     staged: &mut [u8],
     sent: &[u8],
 ) -> Reply
     ensures { λ r. ⌜
         left r (now (queue .exit)) (now (staged .exit)) (now (sent .exit))
-        ≡ told (called (lent (tableOf t) (now (queue .entry)) (now (staged .entry)) (now (sent .entry))) (C.flushAll (record { form = C.staged; rekey = false })))
+        ≡ told (called (lent t (now (queue .entry)) (now (staged .entry)) (now (sent .entry))) (C.flushAll (record { form = C.staged; rekey = false })))
         ⌝ }
 {
-    let inner = table_of(t);
-    let o = pending::flush_all_pending(inner, queue, staged, sent);
-    let answer = o.answer;
-    let next = o.table;
-    replied(of_all(answer), next)
+    let flushed = pending::flush_all_pending(t, queue, staged, sent);
+    let answer = flushed.answer;
+    let table = flushed.table;
+    Reply {
+        answer: of_all(answer),
+        table,
+    }
 }
 
 // The same in the writer form.
 #[no_mangle]
 pub extern "C" fn oxenhush_flush_all_pending_with_writer(
-    t: PlainTable,
+    t: Table,
     queue: &mut [u8],
     staged: &mut [u8],
     sent: &mut [u8],
@@ -435,20 +441,22 @@ pub extern "C" fn oxenhush_flush_all_pending_with_writer(
 ) -> Reply
     ensures { λ r. ⌜
         left r (now (queue .exit)) (now (staged .exit)) (now (sent .exit))
-        ≡ told (called (lent (tableOf t) (now (queue .entry)) (now (staged .entry)) (now (sent .entry))) (C.flushAll (record { form = C.straight; rekey = rekey })))
+        ≡ told (called (lent t (now (queue .entry)) (now (staged .entry)) (now (sent .entry))) (C.flushAll (record { form = C.straight; rekey = rekey })))
         ⌝ }
 {
-    let inner = table_of(t);
-    let o = pending::flush_all_pending_with_writer(inner, queue, staged, sent, rekey);
-    let answer = o.answer;
-    let next = o.table;
-    replied(of_all(answer), next)
+    let flushed = pending::flush_all_pending_with_writer(t, queue, staged, sent, rekey);
+    let answer = flushed.answer;
+    let table = flushed.table;
+    Reply {
+        answer: of_all(answer),
+        table,
+    }
 }
 
 // The longest front run of staged's frames that fits moves to sent. Values: 1, the frames and the bytes, or 0 if rekey holds it.
 #[no_mangle]
 pub extern "C" fn oxenhush_flush(
-    t: PlainTable,
+    t: Table,
     queue: &[u8],
     staged: &mut [u8],
     sent: &mut [u8],
@@ -456,40 +464,39 @@ pub extern "C" fn oxenhush_flush(
 ) -> Reply
     ensures { λ r. ⌜
         left r (now (queue .exit)) (now (staged .exit)) (now (sent .exit))
-        ≡ told (called (lent (tableOf t) (now (queue .entry)) (now (staged .entry)) (now (sent .entry))) (C.flushStaged rekey))
+        ≡ told (called (lent t (now (queue .entry)) (now (staged .entry)) (now (sent .entry))) (C.flushStaged rekey))
         ⌝ }
 {
-    let inner = table_of(t);
-    let o = staging::flush(inner, queue, staged, sent, rekey);
-    let answer = o.answer;
-    let next = o.table;
-    replied(of_moved(answer), next)
+    let moved = staging::flush(t, queue, staged, sent, rekey);
+    let answer = moved.answer;
+    let table = moved.table;
+    Reply {
+        answer: of_moved(answer),
+        table,
+    }
 }
 
 // Sent is emptied. No value.
 #[no_mangle]
-pub extern "C" fn oxenhush_drain(
-    t: PlainTable,
-    queue: &[u8],
-    staged: &[u8],
-    sent: &mut [u8],
-) -> Reply
+pub extern "C" fn oxenhush_drain(t: Table, queue: &[u8], staged: &[u8], sent: &mut [u8]) -> Reply
     ensures { λ r. ⌜
         left r (now (queue .exit)) (now (staged .exit)) (now (sent .exit))
-        ≡ told (called (lent (tableOf t) (now (queue .entry)) (now (staged .entry)) (now (sent .entry))) C.drain)
+        ≡ told (called (lent t (now (queue .entry)) (now (staged .entry)) (now (sent .entry))) C.drain)
         ⌝ }
 {
-    let inner = table_of(t);
-    let o = staging::drain(inner, queue, staged, sent);
-    let answer = o.answer;
-    let next = o.table;
-    replied(of_acted(answer), next)
+    let drained = staging::drain(t, queue, staged, sent);
+    let answer = drained.answer;
+    let table = drained.table;
+    Reply {
+        answer: of_acted(answer),
+        table,
+    }
 }
 
 // One payload is read and acted on. Values: the message's type and its fields, in their order.
 #[no_mangle]
 pub extern "C" fn oxenhush_incoming(
-    t: PlainTable,
+    t: Table,
     queue: &mut [u8],
     staged: &mut [u8],
     sent: &[u8],
@@ -497,12 +504,14 @@ pub extern "C" fn oxenhush_incoming(
 ) -> Reply
     ensures { λ r. ⌜
         left r (now (queue .exit)) (now (staged .exit)) (now (sent .exit))
-        ≡ told (called (lent (tableOf t) (now (queue .entry)) (now (staged .entry)) (now (sent .entry))) (C.act (C.incoming (now (payload .entry)))))
+        ≡ told (called (lent t (now (queue .entry)) (now (staged .entry)) (now (sent .entry))) (C.act (C.incoming (now (payload .entry)))))
         ⌝ }
 {
-    let inner = table_of(t);
-    let o = incoming::incoming(inner, queue, staged, sent, payload);
-    let answer = o.answer;
-    let next = o.table;
-    replied(of_taken(answer), next)
+    let taken = incoming::incoming(t, queue, staged, sent, payload);
+    let answer = taken.answer;
+    let table = taken.table;
+    Reply {
+        answer: of_taken(answer),
+        table,
+    }
 }

@@ -16,7 +16,7 @@ use Rattle.laws.proofs.Marks.{set-le}
 use Rattle.channel.specs.declared.Kind.{Kind}
 use Rattle.channel.specs.declared.Record.{Record}
 use Rattle.channel.specs.declared.Entry as E
-use Rattle.channel.specs.State.{placeCount, mostEntries, numberOf, Place, vacant, holds, Entry, replace, settleIn, anyVacant, isUsed, queued, refit}
+use Rattle.channel.specs.State.{placeCount, mostEntries, numberOf, stored, Place, vacant, holds, Entry, replace, settleIn, anyVacant, isUsed, queued, refit}
 use Rattle.channel.specs.State as S
 use Rattle.channel.specs.Raw.{Raw, placesOf, meaning, written, wordOf, recordsOf, pendingOf, zeroRecord, zeroEntry}
 use Rattle.channel.specs.Raw as R
@@ -243,10 +243,13 @@ refit-less old new rest h = let e : new - old ≡ 0 = omega arith in rw e
 -- ENTRIES as the code holds them: the rows, their count, and the queue with its used count
 
 abbrev pub entry : ℕ → Kind → List ℕ → Entry
-entry n kind bs = record { number = n; kind = kind; bytes = bs }
+entry n kind bs = record { number = n; kind = stored kind; bytes = bs }
 
 abbrev pub row : ℕ → Kind → ℕ → E.Entry
-row n kind left = record { number = record { 0 = n }; kind = kind; left = left }
+row n kind left = record { number = record { 0 = n }; kind = stored kind; left = left }
+
+abbrev rowOf : Entry → E.Entry
+rowOf e = record { number = record { 0 = e .number }; kind = e .kind; left = length (e .bytes) }
 
 pub record Rows (r : Raw) (es : List Entry) (rows : List E.Entry) (n m : ℕ) (q : List ℕ) : Type 0 where
   pub entries : pendingOf es ++ replicate (mostEntries - length es) zeroEntry ≡ rows
@@ -263,10 +266,10 @@ queued-one : (es : List Entry) (e : Entry) → queued (es ++ e ∷ []) ≡ queue
 unfolding S.queued
 queued-one es e = queued-append es (e ∷ []) ∙ ap (λ l. queued es ++ l) (append-nil (e .bytes))
 
-pending-one : (es : List Entry) (e : Entry) → pendingOf (es ++ e ∷ []) ≡ pendingOf es ++ row (e .number) (e .kind) (length (e .bytes)) ∷ []
+pending-one : (es : List Entry) (e : Entry) → pendingOf (es ++ e ∷ []) ≡ pendingOf es ++ rowOf e ∷ []
 unfolding R.pendingOf
 pending-one [] e = refl
-pending-one (x ∷ es) e = ap (λ l. row (x .number) (x .kind) (length (x .bytes)) ∷ l) (pending-one es e)
+pending-one (x ∷ es) e = ap (λ l. rowOf x ∷ l) (pending-one es e)
 
 -- one row is stored behind those in use
 row-stored : (xs : List E.Entry) (p z : E.Entry) (n k : ℕ) → length xs ≡ k → k < n → set (xs ++ replicate (n - k) z) k p ≡ xs ++ p ∷ replicate (n - suc k) z
@@ -276,7 +279,7 @@ row-stored xs p z n k q h =
 
 rows-stored : (es : List Entry) (e : Entry) → length es < mostEntries
     → pendingOf (es ++ e ∷ []) ++ replicate (mostEntries - length (es ++ e ∷ [])) zeroEntry
-    ≡ set (pendingOf es ++ replicate (mostEntries - length es) zeroEntry) (length es) (row (e .number) (e .kind) (length (e .bytes)))
+    ≡ set (pendingOf es ++ replicate (mostEntries - length es) zeroEntry) (length es) (rowOf e)
 rows-stored es e h =
     let c : mostEntries - length (es ++ e ∷ []) ≡ mostEntries - suc (length es) = omega (arith, length-append es (e ∷ [])) in
     ap₂ (λ x k. x ++ replicate k zeroEntry) (pending-one es e) c

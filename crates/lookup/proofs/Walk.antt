@@ -17,13 +17,12 @@ use Rattle.laws.proofs.Tests.{and-both}
 use Rattle.laws.proofs.Lists.{next}
 use Rattle.laws.proofs.Bits.{half-first, half-last}
 use Rattle.channel.specs.declared.Record.{Record}
-use Rattle.channel.specs.declared.Kind.the-variants.{Plain}
 use Rattle.channel.specs.declared.Entry as E
 use Rattle.channel.specs.State.{numberOf, Place, vacant, holds, Entry, nowhere, found, look, isUsed, anyEntry}
 use Rattle.channel.specs.State as S
 use Rattle.channel.specs.Raw.{placesOf, entriesOf}
 use Rattle.channel.specs.Raw as R
-use Rattle.channel.specs.Sound.{isZero, isPlain, unusedZero, entriesZero, distinct, foundConfirmed, allNamed, sumLeft, isMarked, allMarked}
+use Rattle.channel.specs.Sound.{isZero, isZeroEntry, unusedZero, entriesZero, distinct, foundConfirmed, allNamed, sumLeft, isMarked, allMarked}
 use Rattle.channel.specs.Sound as O
 use Rattle.channel.proofs.Lookup.{look-hit, look-miss}
 use Rattle.channel.proofs.Faithful.{length-places, length-entries}
@@ -205,16 +204,21 @@ confirmed-none n ps e = ap foundConfirmed e
 
 -- ENTRIES
 
-pub zero-next : (es : List E.Entry) (k : ℕ) (z : E.Entry) → k < length es
-    → entriesZero (drop k es) ≡ (eqb (getD es k z .number .0) 0 && isPlain (getD es k z .kind) && eqb (getD es k z .left) 0) && entriesZero (drop (k + 1) es)
-unfolding O.entriesZero Cl.every
-zero-next es k z h = rw (next es k z h, and-true) (sym (and-assoc (eqb (getD es k z .number .0) 0 && isPlain (getD es k z .kind)) _ _ ∙ and-assoc (eqb (getD es k z .number .0) 0) _ _))
+-- an unused entry, test by test
+pub zero-entry-flat : (p : E.Entry) → eqb (p .number .0) 0 && not (p .kind .extended) && eqb (p .kind .code) 0 && eqb (p .left) 0 ≡ isZeroEntry p
+unfolding O.isZeroEntry Cl.every
+zero-entry-flat p = simp (and-assoc, and-true)
 
-pub zero-go : (es : List E.Entry) (k : ℕ) (z : E.Entry) → k < length es → eqb (getD es k z .number .0) 0 && isPlain (getD es k z .kind) && eqb (getD es k z .left) 0 ≡ true
+pub zero-next : (es : List E.Entry) (k : ℕ) (z : E.Entry) → k < length es
+    → entriesZero (drop k es) ≡ isZeroEntry (getD es k z) && entriesZero (drop (k + 1) es)
+unfolding O.entriesZero
+zero-next es k z h = rw (next es k z h)
+
+pub zero-go : (es : List E.Entry) (k : ℕ) (z : E.Entry) → k < length es → isZeroEntry (getD es k z) ≡ true
     → entriesZero (drop k es) ≡ entriesZero (drop (k + 1) es)
 zero-go es k z h t = zero-next es k z h ∙ ap (λ b. b && entriesZero (drop (k + 1) es)) t
 
-pub zero-stop : (es : List E.Entry) (k : ℕ) (z : E.Entry) → k < length es → eqb (getD es k z .number .0) 0 && isPlain (getD es k z .kind) && eqb (getD es k z .left) 0 ≡ false
+pub zero-stop : (es : List E.Entry) (k : ℕ) (z : E.Entry) → k < length es → isZeroEntry (getD es k z) ≡ false
     → entriesZero (drop k es) ≡ false
 zero-stop es k z h t = zero-next es k z h ∙ ap (λ b. b && entriesZero (drop (k + 1) es)) t
 
@@ -258,7 +262,7 @@ marked-same es fs (vacant ∷ ps) f = marked-same es fs ps f
 marked-same es fs (holds c ∷ ps) f = rw (f (numberOf c), marked-same es fs ps f)
 
 no-entry : Entry
-no-entry = record { number = 0; kind = Plain; bytes = [] }
+no-entry = record { number = 0; kind = record { extended = false; code = 0 }; bytes = [] }
 
 number-at : (c : ℕ) (es : List E.Entry) (bs : List ℕ) (k : ℕ) (z : E.Entry) → k < c → c ≤ length es → getD (entriesOf c es bs) k no-entry .number ≡ getD es k z .number .0
 unfolding R.entriesOf

@@ -17,7 +17,7 @@ use Rattle.channel.specs.declared.Entry as E
 use Rattle.channel.specs.declared.Record.{Record}
 use Rattle.channel.specs.Wire as W
 use Rattle.channel.specs.Wire.{frames, packets}
-use Rattle.channel.specs.State.{Entry, numberOf, peerOf, queued, without}
+use Rattle.channel.specs.State.{Entry, numberOf, kindOf, peerOf, queued, without}
 use Rattle.channel.specs.State as S
 use Rattle.channel.specs.Decide.{Flushed, flushed, keeping, sending, anyByte}
 use Rattle.channel.specs.Decide as D
@@ -104,8 +104,8 @@ sizes-flushed c w (e ∷ es) h =
     let p : E.Entry = record { number = record { 0 = e .number }; kind = e .kind; left = length (e .bytes) } in
     let m : ℕ = takenBy (numberOf c) w (e .number) (length (e .bytes)) in
     let lm : length (take m (e .bytes)) ≡ m = length-take-le m (e .bytes) (taken-left (numberOf c) w (e .number) (length (e .bytes))) in
-    let lp : length (frames (packets (e .kind) (peerOf c) (c .«recipient_maximum_packet_size») (take m (e .bytes)))) ≡ sizeBy c (e .kind) m =
-    length-run (e .kind) (peerOf c) (c .«recipient_maximum_packet_size») (take m (e .bytes)) h ∙ ap (sizeBy c (e .kind)) lm in
+    let lp : length (frames (packets (kindOf (e .kind)) (peerOf c) (c .«recipient_maximum_packet_size») (take m (e .bytes)))) ≡ sizeBy c (e .kind) m =
+    length-run (kindOf (e .kind)) (peerOf c) (c .«recipient_maximum_packet_size») (take m (e .bytes)) h ∙ ap (sizeBy c (e .kind)) lm in
     by-test (stopsBy (numberOf c) w (e .number) (length (e .bytes)))
     (λ t.
     let f = flushed-part c w e es (stop-is c w e es t) (lt-leb _ _ (stop-less c w e es t)) in
@@ -117,7 +117,7 @@ sizes-flushed c w (e ∷ es) h =
     }))
     (λ t.
     let ih = sizes-flushed c (w - m) es h in
-    let l = length-append (frames (packets (e .kind) (peerOf c) (c .«recipient_maximum_packet_size») (take m (e .bytes)))) (frames (flushed c (w - m) es .out)) in
+    let l = length-append (frames (packets (kindOf (e .kind)) (peerOf c) (c .«recipient_maximum_packet_size») (take m (e .bytes)))) (frames (flushed c (w - m) es .out)) in
     sizes-go c w p (pendingOf es) t
     ∙ ap (adds m (sizeBy c (e .kind) m)) ih
     ∙ (λ j. record {
@@ -177,9 +177,9 @@ flushed-limit c l w (e ∷ es) h =
     let z : e .bytes ≡ [] = empty-bytes (numberOf c) (e .number) (e .bytes) t (o .0) in
     let u : leb (length (e .bytes)) w ≡ true = rw z (le-leb 0 w (omega arith)) in
     let a : flushed (withLimit c l) w (e ∷ es) ≡ sending [] 0 (flushed (withLimit c l) w es) =
-    flushed-whole (withLimit c l) w e es t u ∙ rw (z, packets-nil (e .kind) (peerOf c) l, sub-zero w) in
+    flushed-whole (withLimit c l) w e es t u ∙ rw (z, packets-nil (kindOf (e .kind)) (peerOf c) l, sub-zero w) in
     let b : flushed c w (e ∷ es) ≡ sending [] 0 (flushed c w es) =
-    flushed-whole c w e es t u ∙ rw (z, packets-nil (e .kind) (peerOf c) (c .«recipient_maximum_packet_size»), sub-zero w) in
+    flushed-whole c w e es t u ∙ rw (z, packets-nil (kindOf (e .kind)) (peerOf c) (c .«recipient_maximum_packet_size»), sub-zero w) in
     a ∙ ap (sending [] 0) (flushed-limit c l w es (o .1)) ∙ sym b)
     (λ t. flushed-skip (withLimit c l) w e es t ∙ rw (flushed-limit c l w es (o .1)) (sym (flushed-skip c w e es t)))
 

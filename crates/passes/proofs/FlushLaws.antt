@@ -16,12 +16,12 @@ use Rattle.octets.specs.Buf.{write}
 use Rattle.octets.proofs.Laws.{write-nil, write-append, length-write}
 use Rattle.frames.proofs.Packets.{packets-nil, heads-le}
 use Rattle.frames.proofs.Packets as P
-use Rattle.channel.specs.declared.Kind.{Kind}
+use Rattle.channel.specs.declared.StoredKind.{StoredKind}
 use Rattle.channel.specs.declared.Entry as E
 use Rattle.channel.specs.declared.Record.{Record}
 use Rattle.channel.specs.Wire as W
 use Rattle.channel.specs.Wire.{frames, packets}
-use Rattle.channel.specs.State.{Entry, numberOf, peerOf}
+use Rattle.channel.specs.State.{Entry, numberOf, peerOf, kindOf}
 use Rattle.channel.specs.Decide as D
 use Rattle.channel.specs.Decide.{flushed}
 use Rattle.channel.specs.Raw.{entriesOf}
@@ -45,7 +45,7 @@ module _ (c : Record) (w : ℕ) (e : Entry) (es : List Entry) (t : stopsBy (numb
   abbrev taken : ℕ
   taken = takenBy (numberOf c) w (e .number) (length (e .bytes))
 
-  pub out-go : frames (flushed c w (e ∷ es) .out) ≡ frames (packets (e .kind) (peerOf c) (c .«recipient_maximum_packet_size») (take taken (e .bytes))) ++ frames (flushed c (w - taken) es .out)
+  pub out-go : frames (flushed c w (e ∷ es) .out) ≡ frames (packets (kindOf (e .kind)) (peerOf c) (c .«recipient_maximum_packet_size») (take taken (e .bytes))) ++ frames (flushed c (w - taken) es .out)
   unfolding D.keeping D.sending W.frames
   out-go =
       by-test (eqb (e .number) (numberOf c))
@@ -53,8 +53,8 @@ module _ (c : Record) (w : ℕ) (e : Entry) (es : List Entry) (t : stopsBy (numb
       let u : ltb w (length (e .bytes)) ≡ false = rw s at t in
       let h : length (e .bytes) ≤ w = ltb-false w (length (e .bytes)) u in
       rw (s, min-eq-left h, flushed-whole c w e es s (le-leb _ _ h), take-length (e .bytes))
-      (frames-append (packets (e .kind) (peerOf c) (c .«recipient_maximum_packet_size») (e .bytes)) (flushed c (w - length (e .bytes)) es .out)))
-      (λ s. rw (s, flushed-skip c w e es s, packets-nil (e .kind) (peerOf c) (c .«recipient_maximum_packet_size»), sub-zero w))
+      (frames-append (packets (kindOf (e .kind)) (peerOf c) (c .«recipient_maximum_packet_size») (e .bytes)) (flushed c (w - length (e .bytes)) es .out)))
+      (λ s. rw (s, flushed-skip c w e es s, packets-nil (kindOf (e .kind)) (peerOf c) (c .«recipient_maximum_packet_size»), sub-zero w))
 
 module _ (c : Record) (w : ℕ) (e : Entry) (es : List Entry) (t : stopsBy (numberOf c) w (e .number) (length (e .bytes)) ≡ true) where
   pub stop-is : eqb (e .number) (numberOf c) ≡ true
@@ -66,7 +66,7 @@ module _ (c : Record) (w : ℕ) (e : Entry) (es : List Entry) (t : stopsBy (numb
   pub stop-takes : takenBy (numberOf c) w (e .number) (length (e .bytes)) ≡ w
   stop-takes = rw (stop-is, min-eq-right (le-of-lt stop-less))
 
-  pub out-stop : frames (flushed c w (e ∷ es) .out) ≡ frames (packets (e .kind) (peerOf c) (c .«recipient_maximum_packet_size») (take (takenBy (numberOf c) w (e .number) (length (e .bytes))) (e .bytes)))
+  pub out-stop : frames (flushed c w (e ∷ es) .out) ≡ frames (packets (kindOf (e .kind)) (peerOf c) (c .«recipient_maximum_packet_size») (take (takenBy (numberOf c) w (e .number) (length (e .bytes))) (e .bytes)))
   out-stop = rw (stop-takes, flushed-part c w e es stop-is (lt-leb _ _ stop-less))
 
 pub taken-left : (n w number left : ℕ) → takenBy n w number left ≤ left
@@ -91,7 +91,7 @@ module _ {c : Record} {es : List E.Entry} {count : ℕ} {q : List ℕ} {start : 
     (m : ℕ) (em : m ≡ takenBy (numberOf c) w (at es i .number .0) (at es i .left)) where
   -- what the code frames of the entry
   abbrev bs : List ℕ
-  bs = frames (packets (at es i .kind) (peerOf c) (c .«recipient_maximum_packet_size») (take (off + m - off) (drop off q)))
+  bs = frames (packets (kindOf (at es i .kind)) (peerOf c) (c .«recipient_maximum_packet_size») (take (off + m - off) (drop off q)))
 
   pub m-left : m ≤ at es i .left
   m-left = rw em (taken-left (numberOf c) w (at es i .number .0) (at es i .left))
@@ -109,7 +109,7 @@ module _ {c : Record} {es : List E.Entry} {count : ℕ} {q : List ℕ} {start : 
   f-measures = length-take-le (at es i .left) (drop off q) (simp length-drop (omega (arith, f-sums, b .fits)))
 
   -- the entry's part is the code's part of the queue
-  f-part : frames (packets (at es i .kind) (peerOf c) (c .«recipient_maximum_packet_size») (take m (take (at es i .left) (drop off q)))) ≡ bs
+  f-part : frames (packets (kindOf (at es i .kind)) (peerOf c) (c .«recipient_maximum_packet_size») (take m (take (at es i .left) (drop off q)))) ≡ bs
   f-part =
       let e : off + m - off ≡ m = omega arith in
       rw (e, take-take m (at es i .left) (drop off q) m-left)
@@ -188,9 +188,9 @@ pub sizes-stop : (c : Record) (w : ℕ) (p : E.Entry) (ps : List E.Entry) → st
 unfolding sizes
 sizes-stop c w p ps t = rw (t, sizes)
 
-pub size-le : (c : Record) (k : Kind) (m : ℕ) → 0 < c .«recipient_maximum_packet_size» → sizeBy c k m ≤ 18 * m
+pub size-le : (c : Record) (k : StoredKind) (m : ℕ) → 0 < c .«recipient_maximum_packet_size» → sizeBy c k m ≤ 18 * m
 unfolding P.runSize
-size-le c k m h = omega (arith, heads-le m (c .«recipient_maximum_packet_size») k h)
+size-le c k m h = omega (arith, heads-le m (c .«recipient_maximum_packet_size») (kindOf k) h)
 
 -- no more than 18 bytes for each byte held
 pub sizes-le : (k : ℕ) (c : Record) (w : ℕ) (ps : List E.Entry) → 0 < c .«recipient_maximum_packet_size» → (sizes c w (take k ps) .size ≤ 18 * sumLeft k ps) × (sizes c w (take k ps) .wrote ≤ sumLeft k ps)

@@ -16,7 +16,6 @@ use Rattle.octets.specs.Buf as B
 use Rattle.octets.specs.Buf.{write}
 use Rattle.octets.proofs.Laws.{write-nil, write-append, write-eq, length-write, drop-take}
 use Rattle.channel.specs.declared.Entry as E
-use Rattle.channel.specs.declared.Kind.the-variants.{Plain}
 use Rattle.channel.specs.State.{Entry, queued}
 use Rattle.channel.specs.State as S
 use Rattle.channel.specs.Raw.{entriesOf, pendingOf, zeroEntry}
@@ -61,7 +60,7 @@ abbrev pub entryAt : E.Entry → List ℕ → Entry
 entryAt p bs = record { number = p .number .0; kind = p .kind; bytes = take (p .left) bs }
 
 abbrev pub nought : E.Entry
-nought = record { number = record { 0 = 0 }; kind = Plain; left = 0 }
+nought = record { number = record { 0 = 0 }; kind = record { extended = false; code = 0 }; left = 0 }
 
 abbrev pub at : List E.Entry → ℕ → E.Entry
 at es i = getD es i nought

@@ -10,9 +10,9 @@ use Rattle.octets.specs.Buf.{write}
 use Rattle.frames.proofs.Packets.{runSize}
 use Rattle.channel.specs.declared.Entry as E
 use Rattle.channel.specs.declared.Record.{Record}
-use Rattle.channel.specs.declared.Kind.{Kind}
+use Rattle.channel.specs.declared.StoredKind.{StoredKind}
 use Rattle.channel.specs.Wire.{frames}
-use Rattle.channel.specs.State.{numberOf}
+use Rattle.channel.specs.State.{numberOf, kindOf}
 use Rattle.channel.specs.Decide.{Flushed, flushed}
 use Rattle.channel.specs.Raw.{entriesOf}
 use Rattle.channel.specs.Sound.{sumLeft}
@@ -28,8 +28,8 @@ abbrev pub stopsBy : ℕ → ℕ → ℕ → ℕ → Bool
 stopsBy n w number left = eqb number n && ltb w left
 
 -- the bytes that m bytes of data take in packets of the record's limit
-abbrev pub sizeBy : Record → Kind → ℕ → ℕ
-sizeBy c kind m = runSize kind (c .«recipient_maximum_packet_size») m
+abbrev pub sizeBy : Record → StoredKind → ℕ → ℕ
+sizeBy c kind m = runSize (kindOf kind) (c .«recipient_maximum_packet_size») m
 
 abbrev pub adds : ℕ → ℕ → Size → Size
 adds m s r = record { wrote = m + r .wrote; size = s + r .size; all = r .all }

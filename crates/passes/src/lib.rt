@@ -3,9 +3,10 @@
 
 use channel::ChannelId;
 use channel::Entry;
-use channel::Kind;
 use channel::Record;
+use channel::StoredKind;
 use channel::Table;
+use channel::kind_of;
 use channel::zero_entry;
 use frames::put_run;
 use frames::size_of_run;
@@ -20,7 +21,7 @@ ghost use lib.Seq.{sets};
 ghost use Rattle.octets.specs.Buf.{write};
 ghost use Rattle.frames.proofs.Packets.{runSize};
 ghost use Rattle.channel.specs.Wire.{frames};
-ghost use Rattle.channel.specs.State.{mostEntries, mostBytes, without};
+ghost use Rattle.channel.specs.State.{mostEntries, mostBytes, kindOf, without};
 ghost use Rattle.channel.specs.Decide.{flushed};
 ghost use Rattle.channel.specs.Raw.{entriesOf, zeroEntry};
 ghost use Rattle.channel.specs.Sound.{sumLeft};
@@ -216,8 +217,8 @@ fn frame_pending(
     let mut pos = start;
     while i < count {
         let e = entries[i];
+        let kind = kind_of(e.kind);
         let left = left_of(e);
-        let kind = e.kind;
         let m = taken(e, c.sender_channel, w);
         let end = off + m;
         pos = put_run(
@@ -241,11 +242,11 @@ fn frame_pending(
 // THE SIZES
 
 // The bytes that m bytes of data take in packets of the limit.
-fn run_size(kind: Kind, limit: u32, m: usize) -> usize
+fn run_size(kind: StoredKind, limit: u32, m: usize) -> usize
     requires { ⌜ (0 < limit) × (m < 4294967296) ⌝ }
-    ensures { λ r. ⌜ r ≡ runSize kind limit m ⌝ }
+    ensures { λ r. ⌜ r ≡ runSize (kindOf kind) limit m ⌝ }
 {
-    size_of_run(kind, limit, m as u32) as usize
+    size_of_run(kind_of(kind), limit, m as u32) as usize
 }
 
 // What a flush of the channel would frame.
@@ -259,9 +260,8 @@ fn flush_size(entries: [Entry; 64], count: usize, c: Record) -> Size
     let mut size = 0;
     while i < count {
         let e = entries[i];
-        let kind = e.kind;
         let m = taken(e, c.sender_channel, w);
-        size = size + run_size(kind, c.recipient_maximum_packet_size, m);
+        size = size + run_size(e.kind, c.recipient_maximum_packet_size, m);
         wrote = wrote + m;
         if stops(e, c.sender_channel, w) {
             return Size {

@@ -10,7 +10,7 @@ use Rattle.channel.specs.declared.Kind.{Kind}
 use Rattle.channel.specs.declared.Table as D
 use Rattle.channel.specs.declared.Sent.{Sent}
 use Rattle.channel.specs.declared.Sent.the-variants.{Framed, Refused}
-use Rattle.channel.specs.State.{mostEntries, mostBytes, peerOf}
+use Rattle.channel.specs.State.{mostEntries, mostBytes, peerOf, stored}
 use Rattle.channel.specs.Wire.{frames, packets}
 use Rattle.channel.specs.Call.{Route, Load, put, direct}
 use Rattle.channel.specs.Change.{withPeerWindow}
@@ -41,7 +41,7 @@ outSet false t n = counted t n (t .«sent_used»)
 
 -- one entry more, of that many bytes
 abbrev pub pushed : D.Table → ℕ → Kind → ℕ → D.Table
-pushed t n kind left = entryPushed t (record { number = record { 0 = n }; kind = kind; left = left })
+pushed t n kind left = entryPushed t (record { number = record { 0 = n }; kind = stored kind; left = left })
 
 -- the same for a remainder: none for no bytes
 unfoldable pub restPushed : D.Table → ℕ → Kind → ℕ → D.Table

@@ -8,6 +8,7 @@ use channel::Record;
 use channel::Refusal;
 use channel::Sent;
 use channel::Table;
+use channel::stored;
 use frames::put_run;
 use frames::size_of_run;
 use frames::smaller;
@@ -184,7 +185,7 @@ fn queue_all(t: Table, queue: &mut [u8], number: ChannelId, kind: Kind, bytes: &
         t,
         Entry {
             number: number,
-            kind: kind,
+            kind: stored(kind),
             left: n as u32,
         },
     )

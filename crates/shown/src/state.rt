@@ -5,8 +5,8 @@ use crate::text::put_number;
 use answers::Numbers;
 use answers::bit;
 use channel::Entry;
-use channel::Kind;
 use channel::Record;
+use channel::StoredKind;
 use channel::Table;
 
 // The end of a line.
@@ -82,16 +82,13 @@ fn show_records(out: &mut [u8; 16384], start: usize, used: u32, records: [Record
 }
 
 // The kind as a number, and the code, which is 0 for plain data.
-pub fn put_kind(out: &mut [u8; 16384], start: usize, kind: Kind) -> usize {
-    match kind {
-        Kind::Plain => {
-            let at = put_number(out, start, 0);
-            put_number(out, at, 0)
-        }
-        Kind::Extended(code) => {
-            let at = put_number(out, start, 1);
-            put_number(out, at, code as u64)
-        }
+pub fn put_kind(out: &mut [u8; 16384], start: usize, kind: StoredKind) -> usize {
+    if kind.extended {
+        let at = put_number(out, start, 1);
+        put_number(out, at, kind.code as u64)
+    } else {
+        let at = put_number(out, start, 0);
+        put_number(out, at, 0)
     }
 }
 

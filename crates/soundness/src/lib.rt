@@ -3,7 +3,6 @@
 // functions for entries and marks copy the table only where it has some.
 use channel::ChannelId;
 use channel::Entry;
-use channel::Kind;
 use channel::Record;
 use channel::Table;
 use frames::frame_at;
@@ -16,19 +15,9 @@ ghost use lib.Dec.{eqb};
 ghost use lib.ListN.{length, take};
 ghost use Rattle.laws.specs.Bits.{bit};
 ghost use Rattle.channel.specs.State.{placeCount, numbersInAll};
-ghost use Rattle.channel.specs.Sound.{isZero, isPlain, isMarked, distinct, wholeFrames};
+ghost use Rattle.channel.specs.Sound.{isZero, isZeroEntry, isMarked, distinct, wholeFrames};
 ghost use Rattle.channel.specs.Called.{lent};
 ghost use Rattle.soundness.specs.Tested.{Tested, Sized, placesIn, limited, LookedOver, entriesSound, marksSound};
-
-// Plain, not extended.
-fn plain(k: Kind) -> bool
-    ensures { λ b. ⌜ b ≡ isPlain k ⌝ }
-{
-    match k {
-        Kind::Plain => true,
-        Kind::Extended(_) => false,
-    }
-}
 
 // Every field is zero.
 fn is_zero(r: Record) -> bool
@@ -48,10 +37,9 @@ fn is_zero(r: Record) -> bool
 
 // Every field is zero.
 fn is_zero_entry(e: Entry) -> bool
-    ensures { λ b. ⌜ b ≡ eqb (e .number .0) 0 && isPlain (e .kind) && eqb (e .left) 0 ⌝ }
+    ensures { λ b. ⌜ b ≡ isZeroEntry e ⌝ }
 {
-    let k = e.kind;
-    (e.number.0 == 0) & plain(k) & (e.left == 0)
+    (e.number.0 == 0) & !e.kind.extended & (e.kind.code == 0) & (e.left == 0)
 }
 
 // Place i is used.

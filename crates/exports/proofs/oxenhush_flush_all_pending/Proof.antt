@@ -1,24 +1,15 @@
 -- `exports::oxenhush_flush_all_pending` meets its contract: the law `answered`, over what the call below promises.
 -- Assumes nothing.
-use denote.Ref.{now}
-use mathlib.Core.Bool.{false}
-use Rattle.channel.specs.Call as C
-use Rattle.exports.proofs.Told.{answered}
 use borrow.Author.Needs.{needs}
+use Rattle.exports.proofs.Told.{answered}
 use Rattle.exports.proofs.oxenhush_flush_all_pending.Statement.{statement}
 use Rattle.exports.proofs.oxenhush_flush_all_pending.Tie as tie
-
-table-of-requires : tie.Need-table-of-requires
-table-of-requires c κs = search needs
 
 flush-all-pending-requires : tie.Need-flush-all-pending-requires
 flush-all-pending-requires c κs = search needs
 
 of-all-requires : tie.Need-of-all-requires
 of-all-requires c κs = search needs
-
-replied-requires : tie.Need-replied-requires
-replied-requires c κs = search needs
 
 same-length : tie.Need-same-length
 same-length c = search needs
@@ -27,21 +18,7 @@ same-length-2 : tie.Need-same-length-2
 same-length-2 c = search needs
 
 returns : tie.Need-returns
-returns c =
-    let k = c .before .before .before .before .before .before .before in
-    let i = k .before .before .before in
-    let a = i .before .before .before .before .args in
-    answered (C.flushAll (record { form = C.staged; rekey = false })) (a .t) (now (a .queue)) (now (a .staged)) (now (a .sent))
-    (i .table-of .ensures) (k .flush-all-pending .ensures) (c .before .of-all .ensures) (c .replied .ensures)
+returns c = answered (c .before .before .before .before .before .before .flush-all-pending .ensures) (c .of-all .ensures)
 
 pub oxenhush-flush-all-pending-spec : {M : Type 1} → statement M
-oxenhush-flush-all-pending-spec =
-    tie.close
-    (tie.spec
-    table-of-requires
-    flush-all-pending-requires
-    of-all-requires
-    replied-requires
-    same-length
-    same-length-2
-    returns)
+oxenhush-flush-all-pending-spec = tie.close (tie.spec flush-all-pending-requires of-all-requires same-length same-length-2 returns)

@@ -1,23 +1,15 @@
 -- `exports::oxenhush_flush_all_pending_with_writer` meets its contract: the law `answered`, over what the call below promises.
 -- Assumes nothing.
-use denote.Ref.{now}
-use Rattle.channel.specs.Call as C
-use Rattle.exports.proofs.Told.{answered}
 use borrow.Author.Needs.{needs}
+use Rattle.exports.proofs.Told.{answered}
 use Rattle.exports.proofs.oxenhush_flush_all_pending_with_writer.Statement.{statement}
 use Rattle.exports.proofs.oxenhush_flush_all_pending_with_writer.Tie as tie
-
-table-of-requires : tie.Need-table-of-requires
-table-of-requires c κs = search needs
 
 flush-all-pending-with-writer-requires : tie.Need-flush-all-pending-with-writer-requires
 flush-all-pending-with-writer-requires c κs = search needs
 
 of-all-requires : tie.Need-of-all-requires
 of-all-requires c κs = search needs
-
-replied-requires : tie.Need-replied-requires
-replied-requires c κs = search needs
 
 same-length : tie.Need-same-length
 same-length c = search needs
@@ -29,22 +21,7 @@ same-length-3 : tie.Need-same-length-3
 same-length-3 c = search needs
 
 returns : tie.Need-returns
-returns c =
-    let k = c .before .before .before .before .before .before .before .before .before in
-    let i = k .before .before .before .before in
-    let a = i .before .before .before .before .args in
-    answered (C.flushAll (record { form = C.straight; rekey = a .rekey })) (a .t) (now (a .queue)) (now (a .staged)) (now (a .sent))
-    (i .table-of .ensures) (k .flush-all-pending-with-writer .ensures) (c .before .of-all .ensures) (c .replied .ensures)
+returns c = answered (c .before .before .before .before .before .before .before .before .flush-all-pending-with-writer .ensures) (c .of-all .ensures)
 
 pub oxenhush-flush-all-pending-with-writer-spec : {M : Type 1} → statement M
-oxenhush-flush-all-pending-with-writer-spec =
-    tie.close
-    (tie.spec
-    table-of-requires
-    flush-all-pending-with-writer-requires
-    of-all-requires
-    replied-requires
-    same-length
-    same-length-2
-    same-length-3
-    returns)
+oxenhush-flush-all-pending-with-writer-spec = tie.close (tie.spec flush-all-pending-with-writer-requires of-all-requires same-length same-length-2 same-length-3 returns)

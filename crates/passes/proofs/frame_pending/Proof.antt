@@ -50,6 +50,9 @@ base l = l .before .before .before .before .before .pre .0
 hl : (l : Turn) → 0 < C l .«recipient_maximum_packet_size»
 hl l = l .before .before .before .before .before .pre .1 .1
 
+long : (l : Turn) → length (Q l) < 18446744073709551616
+long l = omega arith
+
 test : (l : Turn) → l .before .loop .i < N l
 test l = l .loop-test .taken
 
@@ -63,7 +66,7 @@ going : (l : Turn) → G l
 going l = l .before .loop .inv
 
 abbrev turn : Took → Turn
-turn t = t .before .before .before
+turn t = t .before .before .before .before
 
 lefts : (t : Took) → t .taken .result ≤ t .before .left-of .result
 lefts t = let l = turn t in omega (arith, m-left (base l) (hl l) (going l) (test l) _ (t .taken .ensures .0), t .before .left-of .ensures .0)
@@ -73,6 +76,9 @@ ends t = let l = turn t in omega (arith, f-sums (base l) (hl l) (going l) (test 
 
 wide-requires : tie.Need-wide-requires Inv-loop μ-loop
 wide-requires c κs = search needs
+
+kind-of-requires : tie.Need-kind-of-requires Inv-loop μ-loop
+kind-of-requires c κs = search needs
 
 loop-holds : tie.Need-loop-holds Inv-loop μ-loop
 loop-holds c = rw (c .wide .ensures .0) (frame-start _ _ _ _ _ _)
@@ -106,7 +112,7 @@ put-run-requires c κs =
     let t = c .before .before in
     let l = turn t in
     let p = l .before .before .before .before .before .pre .1 in
-    (hl l, omega (arith, p .0, going l .same), omega (arith, frame-fits (base l) (hl l) (going l) (test l) _ (t .taken .ensures .0), p .2, going l .same))
+    (hl l, omega (arith, p .0, going l .same), rw (t .before .before .kind-of .ensures) (omega (arith, frame-fits (base l) (hl l) (going l) (test l) _ (t .taken .ensures .0), p .2, going l .same)))
 
 stops-requires : tie.Need-stops-requires Inv-loop μ-loop
 stops-requires c κs = search needs
@@ -122,13 +128,13 @@ returns c =
     let t = took (c .before) in
     let l = turn t in
     let r = c .before .before .before .before .put-run in
-    frame-stop (base l) (hl l) (going l) (test l) _ (t .taken .ensures .0) _ _ (sym (c .before .stops .ensures) ∙ c .if1 .taken) (r .ensures .0) (r .ensures .1)
+    frame-stop (base l) (hl l) (going l) (test l) _ (t .taken .ensures .0) _ _ (sym (c .before .stops .ensures) ∙ c .if1 .taken) (rw (t .before .before .kind-of .ensures) at (r .ensures .0)) (rw (t .before .before .kind-of .ensures) at (r .ensures .1))
 
 sub-w : tie.Need-sub-w Inv-loop μ-loop
 sub-w c = let t = took (c .before) in let l = turn t in m-window (base l) (hl l) (going l) (test l) _ (t .taken .ensures .0)
 
 add-off : tie.Need-add-off Inv-loop μ-loop
-add-off c = let t = took (c .before) in omega (arith, ends t, base (turn t) .fits)
+add-off c = let t = took (c .before) in omega (arith, ends t, base (turn t) .fits, long (turn t))
 
 add-i : tie.Need-add-i Inv-loop μ-loop
 add-i c = omega arith
@@ -141,7 +147,7 @@ loop-again c =
     let t = took (c .before) in
     let l = turn t in
     let r = c .before .before .before .before .put-run in
-    frame-go (base l) (hl l) (going l) (test l) _ (t .taken .ensures .0) _ _ _ (t .before .left-of .ensures .0) (sym (c .before .stops .ensures) ∙ c .if1 .left) (r .ensures .0) (r .ensures .1)
+    frame-go (base l) (hl l) (going l) (test l) _ (t .taken .ensures .0) _ _ _ (t .before .left-of .ensures .0) (sym (c .before .stops .ensures) ∙ c .if1 .left) (rw (t .before .before .kind-of .ensures) at (r .ensures .0)) (rw (t .before .before .kind-of .ensures) at (r .ensures .1))
 
 same-length-2 : tie.Need-same-length-2 Inv-loop μ-loop
 same-length-2 c = c .before .loop .inv .same
@@ -159,6 +165,7 @@ frame-pending-spec =
     loop-holds
     mul-e
     array-copy-out-e
+    kind-of-requires
     left-of-requires
     taken-requires
     add-end

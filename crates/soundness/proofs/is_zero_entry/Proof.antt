@@ -1,17 +1,11 @@
--- What `plain` ensures, put in its place.
+-- The tests, one after the other, are the definition's list.
 -- Assumes nothing.
-use mathlib.Core.Path.{ap}
-use mathlib.Core.Bool.{_&&_}
-use lib.Dec.{eqb}
-use borrow.Author.Needs.{needs}
+use Rattle.lookup.proofs.Walk.{zero-entry-flat}
 use Rattle.soundness.proofs.is_zero_entry.Statement.{statement}
 use Rattle.soundness.proofs.is_zero_entry.Tie as tie
 
-plain-requires : tie.Need-plain-requires
-plain-requires c κs = search needs
-
 returns : tie.Need-returns
-returns c = let e = c .before .before .before .args .e in ap (λ b. eqb (e .number .0) 0 && b && eqb (e .left) 0) (c .before .plain .ensures)
+returns c = zero-entry-flat _
 
 pub is-zero-entry-spec : {M : Type 1} → statement M
-is-zero-entry-spec = tie.close (tie.spec plain-requires returns)
+is-zero-entry-spec = tie.close (tie.spec returns)

@@ -1,0 +1,16 @@
+-- `channel::kind_of` meets its contract: the test is the definition's.
+-- Assumes nothing.
+use Rattle.channel.specs.State.{kindOf}
+use Rattle.channel.proofs.kind_of.Statement.{statement}
+use Rattle.channel.proofs.kind_of.Tie as tie
+
+returns : tie.Need-returns
+unfolding kindOf
+returns c = rw (c .if1 .taken)
+
+returns-2 : tie.Need-returns-2
+unfolding kindOf
+returns-2 c = rw (c .if1 .left)
+
+pub kind-of-spec : {M : Type 1} → statement M
+kind-of-spec = tie.close (tie.spec returns returns-2)
