@@ -30,7 +30,7 @@ ghost use Rattle.channel.specs.Called.{lent, called};
 ghost use Rattle.channel.specs.Raw.{emptyTable};
 ghost use Rattle.exports.specs.Told.{left, told};
 
-// What every call gives back: its answer in numbers, and the table.
+// What every call gives back but a query, which changes nothing and gives its answer alone: the answer in numbers, and the table.
 #[repr(C)]
 pub struct Reply {
     pub answer: Numbers,
@@ -320,17 +320,13 @@ pub extern "C" fn oxenhush_sender_window_size(
     staged: &[u8],
     sent: &[u8],
     number: u32,
-) -> Reply
+) -> Numbers
     ensures { λ r. ⌜
-        left r (now (queue .exit)) (now (staged .exit)) (now (sent .exit))
+        left (record { answer = r; table = t }) (now (queue .exit)) (now (staged .exit)) (now (sent .exit))
         ≡ told (called (lent t (now (queue .entry)) (now (staged .entry)) (now (sent .entry))) (C.act (C.windowOf number)))
         ⌝ }
 {
-    let answer = window::sender_window_size(t, queue, staged, sent, ChannelId(number));
-    Reply {
-        answer: of_window(answer),
-        table: t,
-    }
+    of_window(window::sender_window_size(t, queue, staged, sent, ChannelId(number)))
 }
 
 // Whether the channel has an entry, no for an unknown number. Value: 1 or 0.
@@ -341,17 +337,13 @@ pub extern "C" fn oxenhush_has_pending_data(
     staged: &[u8],
     sent: &[u8],
     number: u32,
-) -> Reply
+) -> Numbers
     ensures { λ r. ⌜
-        left r (now (queue .exit)) (now (staged .exit)) (now (sent .exit))
+        left (record { answer = r; table = t }) (now (queue .exit)) (now (staged .exit)) (now (sent .exit))
         ≡ told (called (lent t (now (queue .entry)) (now (staged .entry)) (now (sent .entry))) (C.act (C.hasPending number)))
         ⌝ }
 {
-    let answer = window::has_pending_data(t, queue, staged, sent, ChannelId(number));
-    Reply {
-        answer: of_pending(answer),
-        table: t,
-    }
+    of_pending(window::has_pending_data(t, queue, staged, sent, ChannelId(number)))
 }
 
 // The pending flush of one channel into staged. Values: 1, the bytes framed and the two marks if complete, else 0 and the bytes framed.
