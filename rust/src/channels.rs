@@ -1,6 +1,6 @@
 //! The channels of one connection: the table and its three buffers.
 
-use crate::ffi::{self, Entry, Record, Reply};
+use crate::ffi::{self, Entry, Record, Table};
 use crate::{answer, ChannelFlushResult, ChannelId, Error, Flushed, Message, Stopped};
 use std::fmt;
 
@@ -109,9 +109,9 @@ impl Pending {
 /// # Ok(())
 /// # }
 /// ```
-#[derive(Clone)]
+#[derive(Clone, PartialEq, Eq)]
 pub struct Channels {
-    last: Reply,
+    table: Table,
     queue: Box<[u8]>,
     staged: Box<[u8]>,
     sent: Box<[u8]>,
@@ -122,7 +122,7 @@ impl Channels {
     /// [`Error::State`].
     pub fn new(queue: usize, staged: usize, sent: usize) -> Channels {
         let buffer = |size| vec![0; size].into_boxed_slice();
-        Channels { last: Reply::with(ffi::table_new()), queue: buffer(queue), staged: buffer(staged), sent: buffer(sent) }
+        Channels { table: ffi::table_new(), queue: buffer(queue), staged: buffer(staged), sent: buffer(sent) }
     }
 
     /// Opens a channel at our end, for the peer to confirm, with our window and packet limit. Its number is the first after the last one
@@ -132,7 +132,7 @@ impl Channels {
     ///
     /// [`Error::Room`] if there are 32 channels.
     pub fn new_channel(&mut self, window_size: u32, maxpacket: u32) -> Result<ChannelId, Error> {
-        answer::channel(&ffi::new_channel(&mut self.last, &self.queue, &self.staged, &self.sent, window_size, maxpacket))
+        answer::channel(&ffi::new_channel(&mut self.table, &self.queue, &self.staged, &self.sent, window_size, maxpacket))
     }
 
     /// Gives a number out as [`new_channel`](Self::new_channel) does, and opens nothing.
@@ -141,7 +141,7 @@ impl Channels {
     ///
     /// [`Error::Room`] if there are 32 channels.
     pub fn new_channel_id(&mut self) -> Result<ChannelId, Error> {
-        answer::channel(&ffi::new_channel_id(&mut self.last, &self.queue, &self.staged, &self.sent))
+        answer::channel(&ffi::new_channel_id(&mut self.table, &self.queue, &self.staged, &self.sent))
     }
 
     /// Opens a channel that the peer asked for, confirmed at once, at a number that the caller gives, with our window and packet limit.
@@ -151,7 +151,7 @@ impl Channels {
     /// [`Error::Already`] if the number is in use; [`Error::Room`] if there are 32 channels.
     pub fn open_for_peer(&mut self, channel: ChannelId, peer: Peer, window_size: u32, maxpacket: u32) -> Result<(), Error> {
         answer::done(&ffi::open_for_peer(
-            &mut self.last,
+            &mut self.table,
             &self.queue,
             &self.staged,
             &self.sent,
@@ -172,7 +172,7 @@ impl Channels {
     /// [`Error::Unknown`], [`Error::Unconfirmed`], [`Error::Limit`] (not of empty data, nor where the whole is queued), [`Error::Room`]
     /// (asked of the packets and the rest together).
     pub fn data(&mut self, channel: ChannelId, buf: &[u8], rekey: bool) -> Result<usize, Error> {
-        answer::count(&ffi::data(&mut self.last, &mut self.queue, &mut self.staged, &self.sent, channel.0, buf, rekey))
+        answer::count(&ffi::data(&mut self.table, &mut self.queue, &mut self.staged, &self.sent, channel.0, buf, rekey))
     }
 
     /// As [`data`](Self::data), but the packets go straight into sent if nothing is staged.
@@ -181,7 +181,7 @@ impl Channels {
     ///
     /// Those of [`data`](Self::data).
     pub fn data_with_writer(&mut self, channel: ChannelId, buf: &[u8], rekey: bool) -> Result<usize, Error> {
-        answer::count(&ffi::data_with_writer(&mut self.last, &mut self.queue, &mut self.staged, &mut self.sent, channel.0, buf, rekey))
+        answer::count(&ffi::data_with_writer(&mut self.table, &mut self.queue, &mut self.staged, &mut self.sent, channel.0, buf, rekey))
     }
 
     /// As [`data`](Self::data), with extended data of the code `ext` (1 is standard error).
@@ -190,7 +190,7 @@ impl Channels {
     ///
     /// Those of [`data`](Self::data).
     pub fn extended_data(&mut self, channel: ChannelId, ext: u32, buf: &[u8], rekey: bool) -> Result<usize, Error> {
-        answer::count(&ffi::extended_data(&mut self.last, &mut self.queue, &mut self.staged, &self.sent, channel.0, ext, buf, rekey))
+        answer::count(&ffi::extended_data(&mut self.table, &mut self.queue, &mut self.staged, &self.sent, channel.0, ext, buf, rekey))
     }
 
     /// As [`extended_data`](Self::extended_data), but the packets go straight into sent if nothing is staged.
@@ -200,7 +200,7 @@ impl Channels {
     /// Those of [`extended_data`](Self::extended_data).
     pub fn extended_data_with_writer(&mut self, channel: ChannelId, ext: u32, buf: &[u8], rekey: bool) -> Result<usize, Error> {
         answer::count(&ffi::extended_data_with_writer(
-            &mut self.last,
+            &mut self.table,
             &mut self.queue,
             &mut self.staged,
             &mut self.sent,
@@ -217,7 +217,7 @@ impl Channels {
     ///
     /// [`Error::Unknown`], [`Error::Unconfirmed`], [`Error::Room`].
     pub fn eof(&mut self, channel: ChannelId) -> Result<(), Error> {
-        answer::done(&ffi::eof(&mut self.last, &self.queue, &mut self.staged, &self.sent, channel.0))
+        answer::done(&ffi::eof(&mut self.table, &self.queue, &mut self.staged, &self.sent, channel.0))
     }
 
     /// Closes the channel: CLOSE is staged and the channel is gone, or CLOSE is marked to follow the data that is pending.
@@ -226,7 +226,7 @@ impl Channels {
     ///
     /// [`Error::Unknown`], [`Error::Unconfirmed`], [`Error::Room`].
     pub fn close(&mut self, channel: ChannelId) -> Result<(), Error> {
-        answer::done(&ffi::close(&mut self.last, &self.queue, &mut self.staged, &self.sent, channel.0))
+        answer::done(&ffi::close(&mut self.table, &self.queue, &mut self.staged, &self.sent, channel.0))
     }
 
     /// Charges the receive window for `n` bytes of data that came in; more than the window are not charged. If it is then below half of
@@ -236,7 +236,7 @@ impl Channels {
     ///
     /// [`Error::Unknown`], [`Error::Unconfirmed`], [`Error::Room`].
     pub fn adjust_window_size(&mut self, channel: ChannelId, n: u32, target: u32) -> Result<bool, Error> {
-        answer::yes(&ffi::adjust_window_size(&mut self.last, &self.queue, &mut self.staged, &self.sent, channel.0, n, target))
+        answer::yes(&ffi::adjust_window_size(&mut self.table, &self.queue, &mut self.staged, &self.sent, channel.0, n, target))
     }
 
     /// The receive window: the bytes that the peer may still send. 0 for a channel that is not there.
@@ -245,7 +245,7 @@ impl Channels {
     ///
     /// [`Error::State`] only.
     pub fn sender_window_size(&self, channel: ChannelId) -> Result<u32, Error> {
-        answer::number(&ffi::sender_window_size(&self.last.table, &self.queue, &self.staged, &self.sent, channel.0))
+        answer::number(&ffi::sender_window_size(&self.table, &self.queue, &self.staged, &self.sent, channel.0))
     }
 
     /// Whether the channel has data that waits, perhaps of 0 bytes. No for a channel that is not there.
@@ -254,7 +254,7 @@ impl Channels {
     ///
     /// [`Error::State`] only.
     pub fn has_pending_data(&self, channel: ChannelId) -> Result<bool, Error> {
-        answer::yes(&ffi::has_pending_data(&self.last.table, &self.queue, &self.staged, &self.sent, channel.0))
+        answer::yes(&ffi::has_pending_data(&self.table, &self.queue, &self.staged, &self.sent, channel.0))
     }
 
     /// Frames the channel's pending data into staged, up to the peer's window, and stages what was marked behind it.
@@ -263,7 +263,7 @@ impl Channels {
     ///
     /// [`Error::Unknown`], [`Error::Limit`], [`Error::Room`].
     pub fn flush_pending(&mut self, channel: ChannelId) -> Result<ChannelFlushResult, Error> {
-        answer::channel_flush_result(&ffi::flush_pending(&mut self.last, &mut self.queue, &mut self.staged, &self.sent, channel.0))
+        answer::channel_flush_result(&ffi::flush_pending(&mut self.table, &mut self.queue, &mut self.staged, &self.sent, channel.0))
     }
 
     /// As [`flush_pending`](Self::flush_pending), but the packets go straight into sent if nothing is staged and `rekey` is off. EOF and
@@ -274,7 +274,7 @@ impl Channels {
     /// Those of [`flush_pending`](Self::flush_pending).
     pub fn flush_pending_with_writer(&mut self, channel: ChannelId, rekey: bool) -> Result<ChannelFlushResult, Error> {
         answer::channel_flush_result(&ffi::flush_pending_with_writer(
-            &mut self.last,
+            &mut self.table,
             &mut self.queue,
             &mut self.staged,
             &mut self.sent,
@@ -290,7 +290,7 @@ impl Channels {
     ///
     /// [`Stopped`] at a channel, with [`Error::Limit`] or [`Error::Room`].
     pub fn flush_all_pending(&mut self) -> Result<(), Stopped> {
-        answer::all_flushed(&ffi::flush_all_pending(&mut self.last, &mut self.queue, &mut self.staged, &self.sent))
+        answer::all_flushed(&ffi::flush_all_pending(&mut self.table, &mut self.queue, &mut self.staged, &self.sent))
     }
 
     /// Does [`flush_pending_with_writer`](Self::flush_pending_with_writer) for every channel, in ascending number, and stops at the first
@@ -300,7 +300,7 @@ impl Channels {
     ///
     /// [`Stopped`] at a channel, with [`Error::Limit`] or [`Error::Room`].
     pub fn flush_all_pending_with_writer(&mut self, rekey: bool) -> Result<(), Stopped> {
-        answer::all_flushed(&ffi::flush_all_pending_with_writer(&mut self.last, &mut self.queue, &mut self.staged, &mut self.sent, rekey))
+        answer::all_flushed(&ffi::flush_all_pending_with_writer(&mut self.table, &mut self.queue, &mut self.staged, &mut self.sent, rekey))
     }
 
     /// Moves the longest front run of staged's frames that fits to sent. During rekey nothing moves.
@@ -309,7 +309,7 @@ impl Channels {
     ///
     /// [`Error::State`] only.
     pub fn flush(&mut self, rekey: bool) -> Result<Flushed, Error> {
-        answer::flushed(&ffi::flush(&mut self.last, &self.queue, &mut self.staged, &mut self.sent, rekey))
+        answer::flushed(&ffi::flush(&mut self.table, &self.queue, &mut self.staged, &mut self.sent, rekey))
     }
 
     /// Empties sent, once its frames are with the cipher.
@@ -318,7 +318,7 @@ impl Channels {
     ///
     /// [`Error::State`] only.
     pub fn drain(&mut self) -> Result<(), Error> {
-        answer::done(&ffi::drain(&mut self.last, &self.queue, &self.staged, &mut self.sent))
+        answer::done(&ffi::drain(&mut self.table, &self.queue, &self.staged, &mut self.sent))
     }
 
     /// Reads one message of the peer's, its payload from the type byte on, and acts on it ([`Message`] says how).
@@ -328,52 +328,43 @@ impl Channels {
     /// [`Error::Malformed`], [`Error::Unknown`], [`Error::Unconfirmed`] (93 to 97), [`Error::Already`] (91 and 92), [`Error::Credit`] (93),
     /// [`Error::Room`] (97).
     pub fn incoming<'a>(&mut self, payload: &'a [u8]) -> Result<Message<'a>, Error> {
-        let answer = ffi::incoming(&mut self.last, &mut self.queue, &mut self.staged, &self.sent, payload);
+        let answer = ffi::incoming(&mut self.table, &mut self.queue, &mut self.staged, &self.sent, payload);
         answer::values(&answer).map(|values| Message::of(values, payload))
     }
 
     /// The used part of queue: the bytes of what is [`pending`](Self::pending), in its order.
     pub fn queue(&self) -> &[u8] {
-        &self.queue[..self.last.table.queue_used]
+        &self.queue[..self.table.queue_used]
     }
 
     /// The used part of staged: whole frames that wait for [`flush`](Self::flush).
     pub fn staged(&self) -> &[u8] {
-        &self.staged[..self.last.table.staged_used]
+        &self.staged[..self.table.staged_used]
     }
 
     /// The used part of sent: whole frames for the cipher, which [`drain`](Self::drain) drops.
     pub fn sent(&self) -> &[u8] {
-        &self.sent[..self.last.table.sent_used]
+        &self.sent[..self.table.sent_used]
     }
 
     /// The channels, by their places in the table.
     pub fn channels(&self) -> impl Iterator<Item = Channel> + '_ {
-        let used = self.last.table.used;
-        let places = self.last.table.records.iter().enumerate();
+        let used = self.table.used;
+        let places = self.table.records.iter().enumerate();
         places.filter(move |(place, _)| used >> place & 1 == 1).map(|(_, record)| Channel::of(record))
     }
 
     /// What is pending, in the order in which it was accepted, over all channels.
     pub fn pending(&self) -> impl Iterator<Item = Pending> + '_ {
-        self.last.table.entries[..self.last.table.entry_count].iter().map(Pending::of)
+        self.table.entries[..self.table.entry_count].iter().map(Pending::of)
     }
 }
-
-/// Every byte of the table and the buffers.
-impl PartialEq for Channels {
-    fn eq(&self, other: &Channels) -> bool {
-        self.last.table == other.last.table && self.queue == other.queue && self.staged == other.staged && self.sent == other.sent
-    }
-}
-
-impl Eq for Channels {}
 
 /// The channels, what is pending, and the used parts of the buffers.
 impl fmt::Debug for Channels {
     fn fmt(&self, f: &mut fmt::Formatter<'_>) -> fmt::Result {
         f.debug_struct("Channels")
-            .field("last", &self.last.table.last)
+            .field("last", &self.table.last)
             .field("channels", &self.channels().collect::<Vec<_>>())
             .field("pending", &self.pending().collect::<Vec<_>>())
             .field("queue", &self.queue())

@@ -64,21 +64,11 @@ pub struct Numbers {
     pub values: [u64; 7],
 }
 
-/// What every call but a query gives back. The table is kept in the last reply, and a call writes the next one over it: so the table is
-/// copied once for a call, on its way in.
+/// What every call gives back but a query, which gives the answer alone.
 #[repr(C)]
-#[derive(Clone, Copy)]
 pub struct Reply {
     pub answer: Numbers,
     pub table: Table,
-}
-
-impl Reply {
-    /// A table that no call has given back yet.
-    pub fn with(table: Table) -> Reply {
-        let answer = Numbers { refusal: 0, count: 0, values: [0; 7] };
-        Reply { answer, table }
-    }
 }
 
 /// How a buffer is lent to a safe function: `mut` if the call may change it.
@@ -97,19 +87,16 @@ macro_rules! pointer {
     (ref $slice:ident) => { $slice.as_ptr() };
 }
 
-/// A query, `ref`, only reads the table and gives its answer back; any other call, `mut`, gives a whole reply, which takes the old one's
-/// place.
+/// A query, `ref`, only reads the table and gives its answer; any other call, `mut`, gives a reply, whose table takes the old one's place.
 #[rustfmt::skip]
 macro_rules! table {
-    (mut) => { &mut Reply };
+    (mut) => { &mut Table };
     (ref) => { &Table };
-    (mut $table:ident) => { $table.table };
-    (ref $table:ident) => { *$table };
-    (mut $table:ident = $reply:expr) => {{ *$table = $reply; $table.answer }};
-    (ref $table:ident = $reply:expr) => { $reply };
+    (mut $table:ident $reply:ident) => {{ *$table = $reply.table; $reply.answer }};
+    (ref $table:ident $answer:ident) => { $answer };
 }
 
-/// What the library gives back.
+/// What the library gives.
 #[rustfmt::skip]
 macro_rules! given {
     (mut) => { Reply };
@@ -144,19 +131,18 @@ macro_rules! calls {
                 $(, $number: $type)*
                 $(, $bytes: &[u8] $(, $rekey: $yes_or_no)?)?
             ) -> Numbers {
-                table!($table t = {
-                    // SAFETY: the arguments keep what the library asks, as said at the top of this file.
-                    unsafe {
-                        $export(
-                            table!($table t),
-                            pointer!($queue queue), queue.len(),
-                            pointer!($staged staged), staged.len(),
-                            pointer!($sent sent), sent.len()
-                            $(, $number)*
-                            $(, $bytes.as_ptr(), $bytes.len() $(, $rekey)?)?
-                        )
-                    }
-                })
+                // SAFETY: the arguments keep what the library asks, as said at the top of this file.
+                let given = unsafe {
+                    $export(
+                        *t,
+                        pointer!($queue queue), queue.len(),
+                        pointer!($staged staged), staged.len(),
+                        pointer!($sent sent), sent.len()
+                        $(, $number)*
+                        $(, $bytes.as_ptr(), $bytes.len() $(, $rekey)?)?
+                    )
+                };
+                table!($table t given)
             }
         )*
     };

@@ -52,59 +52,59 @@ fn payload(state: &State, random: &mut Random) -> Vec<u8> {
 /// Every exported call that takes a table, with the counts of values that it may answer where it is not refused (docs/REPLAY.md).
 #[rustfmt::skip]
 const CALLS: [(&str, &[u32], Call); 19] = [
-    ("new_channel", &[1], |s, r| ffi::new_channel(&mut s.last, &s.queue, &s.staged, &s.sent, r.number(), r.number())),
-    ("new_channel_id", &[1], |s, _| ffi::new_channel_id(&mut s.last, &s.queue, &s.staged, &s.sent)),
+    ("new_channel", &[1], |s, r| ffi::new_channel(&mut s.table, &s.queue, &s.staged, &s.sent, r.number(), r.number())),
+    ("new_channel_id", &[1], |s, _| ffi::new_channel_id(&mut s.table, &s.queue, &s.staged, &s.sent)),
     ("open_for_peer", &[0], |s, r| {
         let n = if r.either() { r.number() } else { number(s, r) };
-        ffi::open_for_peer(&mut s.last, &s.queue, &s.staged, &s.sent, n, r.number(), r.number(), r.number(), r.number(), r.number())
+        ffi::open_for_peer(&mut s.table, &s.queue, &s.staged, &s.sent, n, r.number(), r.number(), r.number(), r.number(), r.number())
     }),
     ("data", &[1], |s, r| {
         let (n, buf) = (number(s, r), data(r));
-        ffi::data(&mut s.last, &mut s.queue, &mut s.staged, &s.sent, n, &buf, r.once_in(3))
+        ffi::data(&mut s.table, &mut s.queue, &mut s.staged, &s.sent, n, &buf, r.once_in(3))
     }),
     ("data_with_writer", &[1], |s, r| {
         let (n, buf) = (number(s, r), data(r));
-        ffi::data_with_writer(&mut s.last, &mut s.queue, &mut s.staged, &mut s.sent, n, &buf, r.once_in(3))
+        ffi::data_with_writer(&mut s.table, &mut s.queue, &mut s.staged, &mut s.sent, n, &buf, r.once_in(3))
     }),
     ("extended_data", &[1], |s, r| {
         let (n, buf) = (number(s, r), data(r));
-        ffi::extended_data(&mut s.last, &mut s.queue, &mut s.staged, &s.sent, n, r.number(), &buf, r.once_in(3))
+        ffi::extended_data(&mut s.table, &mut s.queue, &mut s.staged, &s.sent, n, r.number(), &buf, r.once_in(3))
     }),
     ("extended_data_with_writer", &[1], |s, r| {
         let (n, buf) = (number(s, r), data(r));
-        ffi::extended_data_with_writer(&mut s.last, &mut s.queue, &mut s.staged, &mut s.sent, n, r.number(), &buf, r.once_in(3))
+        ffi::extended_data_with_writer(&mut s.table, &mut s.queue, &mut s.staged, &mut s.sent, n, r.number(), &buf, r.once_in(3))
     }),
     ("eof", &[0], |s, r| {
         let n = number(s, r);
-        ffi::eof(&mut s.last, &s.queue, &mut s.staged, &s.sent, n)
+        ffi::eof(&mut s.table, &s.queue, &mut s.staged, &s.sent, n)
     }),
     ("close", &[0], |s, r| {
         let n = number(s, r);
-        ffi::close(&mut s.last, &s.queue, &mut s.staged, &s.sent, n)
+        ffi::close(&mut s.table, &s.queue, &mut s.staged, &s.sent, n)
     }),
     ("adjust_window_size", &[1], |s, r| {
         let n = number(s, r);
-        ffi::adjust_window_size(&mut s.last, &s.queue, &mut s.staged, &s.sent, n, r.number(), r.number())
+        ffi::adjust_window_size(&mut s.table, &s.queue, &mut s.staged, &s.sent, n, r.number(), r.number())
     }),
-    ("sender_window_size", &[1], |s, r| ffi::sender_window_size(&s.last.table, &s.queue, &s.staged, &s.sent, number(s, r))),
-    ("has_pending_data", &[1], |s, r| ffi::has_pending_data(&s.last.table, &s.queue, &s.staged, &s.sent, number(s, r))),
+    ("sender_window_size", &[1], |s, r| ffi::sender_window_size(&s.table, &s.queue, &s.staged, &s.sent, number(s, r))),
+    ("has_pending_data", &[1], |s, r| ffi::has_pending_data(&s.table, &s.queue, &s.staged, &s.sent, number(s, r))),
     ("flush_pending", &[2, 4], |s, r| {
         let n = number(s, r);
-        ffi::flush_pending(&mut s.last, &mut s.queue, &mut s.staged, &s.sent, n)
+        ffi::flush_pending(&mut s.table, &mut s.queue, &mut s.staged, &s.sent, n)
     }),
     ("flush_pending_with_writer", &[2, 4], |s, r| {
         let n = number(s, r);
-        ffi::flush_pending_with_writer(&mut s.last, &mut s.queue, &mut s.staged, &mut s.sent, n, r.once_in(3))
+        ffi::flush_pending_with_writer(&mut s.table, &mut s.queue, &mut s.staged, &mut s.sent, n, r.once_in(3))
     }),
-    ("flush_all_pending", &[0], |s, _| ffi::flush_all_pending(&mut s.last, &mut s.queue, &mut s.staged, &s.sent)),
+    ("flush_all_pending", &[0], |s, _| ffi::flush_all_pending(&mut s.table, &mut s.queue, &mut s.staged, &s.sent)),
     ("flush_all_pending_with_writer", &[0], |s, r| {
-        ffi::flush_all_pending_with_writer(&mut s.last, &mut s.queue, &mut s.staged, &mut s.sent, r.once_in(3))
+        ffi::flush_all_pending_with_writer(&mut s.table, &mut s.queue, &mut s.staged, &mut s.sent, r.once_in(3))
     }),
-    ("flush", &[1, 3], |s, r| ffi::flush(&mut s.last, &s.queue, &mut s.staged, &mut s.sent, r.once_in(3))),
-    ("drain", &[0], |s, _| ffi::drain(&mut s.last, &s.queue, &s.staged, &mut s.sent)),
+    ("flush", &[1, 3], |s, r| ffi::flush(&mut s.table, &s.queue, &mut s.staged, &mut s.sent, r.once_in(3))),
+    ("drain", &[0], |s, _| ffi::drain(&mut s.table, &s.queue, &s.staged, &mut s.sent)),
     ("incoming", &[2, 3, 4, 5, 7], |s, r| {
         let message = payload(s, r);
-        ffi::incoming(&mut s.last, &mut s.queue, &mut s.staged, &s.sent, &message)
+        ffi::incoming(&mut s.table, &mut s.queue, &mut s.staged, &s.sent, &message)
     }),
 ];
 

@@ -45,5 +45,5 @@ fn a_table() {
 fn a_reply() {
     let answer = Numbers { refusal: 0, count: 0, values: [0; 7] };
     assert_eq!(offsets!(answer; refusal, count, values), [0, 4, 8]);
-    assert_eq!(offsets!(Reply::with(table_new()); answer, table), [0, 64]);
+    assert_eq!(offsets!(Reply { answer, table: table_new() }; answer, table), [0, 64]);
 }

@@ -1,9 +1,9 @@
 //! Document 01's cases that need a table which no call makes.
 
-use crate::ffi::{self, Entry, Record, Reply, Table};
+use crate::ffi::{self, Entry, Record, Table};
 
 /// The number that the table picks next.
-fn pick(t: &mut Reply) -> u64 {
+fn pick(t: &mut Table) -> u64 {
     let answer = ffi::new_channel(t, &[], &[], &[], 64, 32);
     assert_eq!((answer.refusal, answer.count), (0, 1));
     answer.values[0]
@@ -21,18 +21,18 @@ fn the_empty_table() {
         staged_used: 0,
         sent_used: 0,
     };
-    let mut t = Reply::with(ffi::table_new());
-    assert_eq!(t.table, zero);
+    let mut t = ffi::table_new();
+    assert_eq!(t, zero);
     assert_eq!([pick(&mut t), pick(&mut t)], [2, 3]);
 }
 
 #[test]
 fn numbers_go_round() {
-    let mut t = Reply::with(ffi::table_new());
-    t.table.last = u32::MAX;
+    let mut t = ffi::table_new();
+    t.last = u32::MAX;
     for number in [0, 1] {
         assert_eq!(ffi::open_for_peer(&mut t, &[], &[], &[], number, 7, 64, 32, 5, 3).refusal, 0);
     }
     assert_eq!(pick(&mut t), 2);
-    assert_eq!(t.table.last, 2);
+    assert_eq!(t.last, 2);
 }

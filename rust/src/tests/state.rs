@@ -1,35 +1,28 @@
 //! A state of the library, whole: what document 01 calls sound, and states drawn at random.
 
 use super::random::Random;
-use crate::ffi::{table_new, Entry, Record, Reply, StoredKind, Table};
+use crate::ffi::{table_new, Entry, Record, StoredKind, Table};
 
 /// The most bytes in a buffer of a sound state.
 pub const MOST: usize = 65_536;
 
-#[derive(Clone)]
+#[derive(Clone, PartialEq, Eq)]
 pub struct State {
-    pub last: Reply,
+    pub table: Table,
     pub queue: Vec<u8>,
     pub staged: Vec<u8>,
     pub sent: Vec<u8>,
 }
 
-/// Every byte of the table and the buffers.
-impl PartialEq for State {
-    fn eq(&self, other: &State) -> bool {
-        self.last.table == other.last.table && self.queue == other.queue && self.staged == other.staged && self.sent == other.sent
-    }
-}
-
 impl State {
     /// The records in use.
     pub fn used(&self) -> Vec<Record> {
-        (0..32).filter(|i| self.last.table.used >> i & 1 == 1).map(|i| self.last.table.records[i]).collect()
+        (0..32).filter(|i| self.table.used >> i & 1 == 1).map(|i| self.table.records[i]).collect()
     }
 
     /// The entries in use, as far as there are 64.
     fn pending(&self) -> &[Entry] {
-        &self.last.table.entries[..self.last.table.entry_count.min(64)]
+        &self.table.entries[..self.table.entry_count.min(64)]
     }
 
     /// Document 01's paragraph "A state is sound when", clause by clause.
@@ -39,14 +32,14 @@ impl State {
 
     /// No buffer is too long or its used count too large, and there are at most 64 entries.
     fn counts_are_sound(&self) -> bool {
-        let t = &self.last.table;
+        let t = &self.table;
         let buffers = [(&self.queue, t.queue_used), (&self.staged, t.staged_used), (&self.sent, t.sent_used)];
         t.entry_count <= 64 && buffers.iter().all(|(buffer, used)| buffer.len() <= MOST && *used <= buffer.len())
     }
 
     /// Unused places and entries are zero.
     fn rest_is_zero(&self) -> bool {
-        let t = &self.last.table;
+        let t = &self.table;
         let vacant = (0..32).filter(|i| t.used >> i & 1 == 0);
         vacant.into_iter().all(|i| t.records[i] == Record::default()) && t.entries[t.entry_count..].iter().all(|e| *e == Entry::default())
     }
@@ -63,13 +56,13 @@ impl State {
         let waits = |r: &Record| pending.iter().any(|e| e.number == r.sender_channel);
         numbers.len() == used.len()
             && pending.iter().all(confirmed)
-            && pending.iter().map(|e| e.left as usize).sum::<usize>() == self.last.table.queue_used
+            && pending.iter().map(|e| e.left as usize).sum::<usize>() == self.table.queue_used
             && used.iter().all(|r| !marked(r) || waits(r))
     }
 
     /// Staged is whole frames, none empty.
     fn whole_frames(&self) -> bool {
-        let mut rest = &self.staged[..self.last.table.staged_used];
+        let mut rest = &self.staged[..self.table.staged_used];
         while rest.len() >= 4 {
             let length = u32::from_be_bytes([rest[0], rest[1], rest[2], rest[3]]) as usize;
             if length == 0 || length > rest.len() - 4 {
@@ -118,7 +111,7 @@ pub fn any_state(random: &mut Random) -> State {
         let length = random.length();
         random.bytes(length)
     };
-    State { last: Reply::with(table), queue: buffer(), staged: buffer(), sent: buffer() }
+    State { table, queue: buffer(), staged: buffer(), sent: buffer() }
 }
 
 /// Records at some places, with numbers that are distinct, and no mark.
@@ -177,14 +170,14 @@ pub fn sound_state(random: &mut Random) -> State {
     put_entries(random, &mut table, queue.len());
     put_frames(random, &mut table, &mut staged);
     table.sent_used = random.below(sent.len() + 1);
-    State { last: Reply::with(table), queue, staged, sent }
+    State { table, queue, staged, sent }
 }
 
 /// A sound state with one thing changed, which may leave it sound.
 pub fn damaged_state(random: &mut Random) -> State {
     let mut state = sound_state(random);
     let (place, entry) = (random.below(32), random.below(64));
-    let t = &mut state.last.table;
+    let t = &mut state.table;
     match random.below(13) {
         0 => t.used ^= 1 << place,
         1 => t.records[place] = any_record(random),
