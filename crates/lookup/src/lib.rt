@@ -12,12 +12,18 @@ ghost use lib.Dec.{eqb};
 ghost use Rattle.laws.specs.Bits.{bit};
 ghost use Rattle.channel.specs.State.{placeCount, mostEntries, mostBytes, numberOf, anyEntry};
 ghost use Rattle.channel.specs.Raw.{entriesOf};
-ghost use Rattle.lookup.specs.Held.{Finds};
+ghost use Rattle.lookup.specs.Held.{Finds, Seats};
 ghost use Rattle.lookup.specs.Update.{lastSet, recordSet, placeFreed, placeTaken, entryPushed, stagedMore, sentMore};
 
 // The place of a channel's record.
 pub enum Found {
     At(usize),
+    Nothing,
+}
+
+// The same with the record.
+pub enum Seat {
+    At(usize, Record),
     Nothing,
 }
 
@@ -34,6 +40,33 @@ pub fn entry_has(e: Entry, n: ChannelId) -> bool
     ensures { λ b. ⌜ b ≡ eqb (e .number .0) (n .0) ⌝ }
 {
     e.number.0 == n.0
+}
+
+// The place that holds the number, with its record. It sees the two fields that it reads, so that a caller's table is not copied.
+pub fn seat_of(used: u32, records: [Record; 32], n: ChannelId) -> Seat
+    ensures { λ s. ⌜ Seats used records (n .0) s ⌝ }
+{
+    for i in 0..32usize {
+        if place_has(used, i, records[i], n) {
+            return Seat::At(i, records[i]);
+        }
+    }
+    Seat::Nothing
+}
+
+// Whether one of the first entries is the channel's.
+pub fn any_entry(count: usize, entries: [Entry; 64], n: ChannelId) -> bool
+    requires { ⌜ count ≤ mostEntries ⌝ }
+    ensures { λ b. ⌜ b ≡ anyEntry (n .0) (entriesOf count entries []) ⌝ }
+{
+    let mut k: usize = 0;
+    while k < count {
+        if entry_has(entries[k], n) {
+            return true;
+        }
+        k += 1;
+    }
+    false
 }
 
 // The place that holds the number.
@@ -54,15 +87,8 @@ pub fn has_entry(t: Table, n: ChannelId) -> bool
     requires { ⌜ t .«entry_count» ≤ mostEntries ⌝ }
     ensures { λ b. ⌜ b ≡ anyEntry (n .0) (entriesOf (t .«entry_count») (t .entries) []) ⌝ }
 {
-    let count = t.entry_count;
-    let mut k: usize = 0;
-    while k < count {
-        if entry_has(t.entries[k], n) {
-            return true;
-        }
-        k += 1;
-    }
-    false
+    let entries = t.entries;
+    any_entry(t.entry_count, entries, n)
 }
 
 // The word with the clear bit i set.

@@ -18,7 +18,7 @@ use Rattle.channel.specs.declared.Record.{Record}
 use Rattle.channel.specs.declared.Table as D
 use Rattle.channel.specs.declared.Refusal.the-variants.{Unknown}
 use Rattle.channel.specs.declared.Sent.{Sent}
-use Rattle.channel.specs.declared.Sent.the-variants.{Refused}
+use Rattle.channel.specs.declared.Sent.the-variants.{Framed, Refused}
 use Rattle.channel.specs.Wire.{frames, packets}
 use Rattle.channel.specs.State.{mostEntries, numberOf, peerOf, nowhere, look, anyEntry}
 use Rattle.channel.specs.Call.{Form, Route, isStraight, direct, send, put, gave}
@@ -32,18 +32,20 @@ use Rattle.channel.specs.Sound.{isSound}
 use Rattle.channel.specs.Called.{Typed, Outcome, called, lent, outcome}
 use Rattle.channel.specs.Answers as A
 use Rattle.lookup.specs.Held.{HeldAt, recordAt}
-use Rattle.lookup.specs.Update.{recordSet}
+use Rattle.lookup.specs.Update.{counted, recordSet}
 use Rattle.lookup.proofs.Limits.{limits}
 use Rattle.lookup.proofs.Bridge.{behind, entry}
 use Rattle.lookup.proofs.Branch.{refusing, same-is}
 use Rattle.lookup.proofs.Decided.{straight-is, if-true, if-false, serves-is, held-has, held-passes, held-fails, none-passes, by-load}
 use Rattle.lookup.proofs.Payload.{QueueFull, no-entry, no-bytes, outMore, stagedAfter, sentAfter, OutFits, OutShort, sendPlan, queued-is, queued-full, framed-is, framed-rest-is, framed-full, rest-full}
+use Rattle.sending.specs.declared.Free.{Free}
+use Rattle.sending.specs.declared.SentData.{SentData}
 use Rattle.sending.specs.declared.Plan.{Plan}
 use Rattle.sending.specs.declared.Plan.the-variants.{Frame}
 use Rattle.sending.specs.Planned as P
 use Rattle.sending.specs.Planned.{outUsed, freeOf, enters, Sends, Planned}
 use Rattle.sending.specs.Carried as N
-use Rattle.sending.specs.Carried.{After, outSet, pushed, restPushed, framesOf, framedTable, carried, Enters, Able, Ready, Lends, Sending}
+use Rattle.sending.specs.Carried.{After, outSet, picked, pushed, restPushed, runOf, framesOf, runCounted, framedTable, carried, Enters, Able, Ready, Lends, Sending}
 
 -- ROOM
 
@@ -63,27 +65,23 @@ lacks b r out n e u =
     (λ t. no-entry (omega (arith, ltb-false 0 (mostEntries - r .held .«entry_count») t)))
 
 -- the size of the frames that a plan counted on
-size-is : (t : D.Table) (i : ℕ) (kind : Kind) (m size : ℕ) (bs : List ℕ) → m ≤ length bs
-    → P.Takes kind (recordAt t i .«recipient_maximum_packet_size») m size → size ≡ length (framesOf t i kind m bs)
-size-is t i kind m size bs h takes = takes (peerOf (recordAt t i)) (take m bs) (length-take-le m bs h)
+size-is : (r : Record) (kind : Kind) (m size : ℕ) (bs : List ℕ) → m ≤ length bs → P.Takes kind (r .«recipient_maximum_packet_size») m size → size ≡ length (runOf r kind m bs)
+size-is r kind m size bs h takes = takes (peerOf r) (take m bs) (length-take-le m bs h)
 
 -- a plan can be carried out
-pub able : (b : Bool) (t : D.Table) (i : ℕ) (held : Bool) (kind : Kind) (bs : List ℕ) (queue out : ℕ) → Ready b t queue out
-    → {p : Plan} → Planned (recordAt t i) held kind (length bs) (freeOf b t queue out) p → Able p b t i kind bs queue out
-able b t i held kind bs queue out y (P.unconfirmed e) = tt
-able b t i held kind bs queue out y (P.queued e h f) = fits b t queue out (length bs) f (y .queueUsed)
-able b t i held kind bs queue out y (P.queue-full e h f) = tt
-able b t i held kind bs queue out y (P.nothing e h z) = tt
-able b t i held kind bs queue out y (P.limit e h z l) = tt
-able b t i held kind bs queue out y (P.out-full m size s l) = tt
-able b t i held kind bs queue out y (P.rest-full m size s z l) = tt
-able b t i held kind bs queue out y (P.framed m size s l f) =
+pub able : (b : Bool) (t : D.Table) (r : Record) (held : Bool) (kind : Kind) (bs : List ℕ) (queue out : ℕ) → Ready b t queue out
+    → {p : Plan} → Planned r held kind (length bs) (freeOf b t queue out) p → Able p b t r kind bs queue out
+able b t r held kind bs queue out y (P.unconfirmed e) = tt
+able b t r held kind bs queue out y (P.queued e h f) = fits b t queue out (length bs) f (y .queueUsed)
+able b t r held kind bs queue out y (P.queue-full e h f) = tt
+able b t r held kind bs queue out y (P.nothing e h z) = tt
+able b t r held kind bs queue out y (P.limit e h z l) = tt
+able b t r held kind bs queue out y (P.out-full m size s l) = tt
+able b t r held kind bs queue out y (P.rest-full m size s z l) = tt
+able b t r held kind bs queue out y (P.framed m size s l f) =
     let part : m ≤ length bs = omega (arith, s .now) in
     record {
-      limit = s .limit;
-      part = part;
-      window = omega (arith, s .now);
-      fits = omega (arith, size-is t i kind m size bs part (s .takes), y .outUsed);
+      now = record { limit = s .limit; part = part; window = omega (arith, s .now); fits = omega (arith, size-is r kind m size bs part (s .takes), y .outUsed) };
       rest = λ z. fits b t queue out (length bs - m) (f z) (y .queueUsed);
     }
 
@@ -295,7 +293,7 @@ module _ (r : Raw) (ty : Typed r) (sd : isSound r ≡ true) (b : Bool) (route : 
   carries (P.limit e f z l) = stays b r _ (refusing r ty sd (put route (send kind n bs)) _ 4 (any (limited r route n i h kind bs e f z l)))
   carries (P.out-full m size s l) =
       let c = recordAt (r .held) i in
-      let z : size ≡ length (framesOf (r .held) i kind m bs) = size-is (r .held) i kind m size bs (omega (arith, s .now)) (s .takes) in
+      let z : size ≡ length (framesOf (r .held) i kind m bs) = size-is (recordAt (r .held) i) kind m size bs (omega (arith, s .now)) (s .takes) in
       let short : length (outOf b r) < outUsed b (r .held) + length (framesOf (r .held) i kind m bs) = omega arith in
       stays b r _
       (framed-full r ty sd (put route (send kind n bs)) (C.framed m) n i h kind (withPeerWindow c (c .«recipient_window_size» - m)) (packets kind (peerOf c) (c .«recipient_maximum_packet_size») (take m bs)) (drop m bs) b (sending m size s)
@@ -309,7 +307,7 @@ module _ (r : Raw) (ty : Typed r) (sd : isSound r ≡ true) (b : Bool) (route : 
   carries (P.framed m size s l g) =
       let y = ready b r sd in
       let d : length (drop m bs) ≡ length bs - m = length-drop m bs in
-      let z : size ≡ length (framesOf (r .held) i kind m bs) = size-is (r .held) i kind m size bs (omega (arith, s .now)) (s .takes) in
+      let z : size ≡ length (framesOf (r .held) i kind m bs) = size-is (recordAt (r .held) i) kind m size bs (omega (arith, s .now)) (s .takes) in
       let f : outUsed b (r .held) + length (framesOf (r .held) i kind m bs) ≤ length (outOf b r) = omega (arith, y .outUsed) in
       by-test (ltb 0 (length bs - m))
       (λ t. let u : 0 < length bs - m = ltb-true 0 (length bs - m) t in frames-some m size s f (omega arith) (rw d (fits b (r .held) (length (r .queue)) (length (outOf b r)) (length bs - m) (g u) (y .queueUsed))))
@@ -317,20 +315,48 @@ module _ (r : Raw) (ty : Typed r) (sd : isSound r ≡ true) (b : Bool) (route : 
 
 -- CALLEES' PROMISES put together
 
--- a plan, whether it names the tests' results or what they stand for
-pub planned-as : {c : Record} {a a′ : Bool} (rekey : Bool) {kind : Kind} {len entries queue : ℕ} (out : ℕ) {used used′ : ℕ} {p : Plan} → a ≡ a′ → used ≡ used′
-    → Planned c (a || rekey) kind len (record { entries = entries; queue = queue; out = out - used }) p → Planned c (a′ || rekey) kind len (record { entries = entries; queue = queue; out = out - used′ }) p
-planned-as rekey out e f x = rw (← e, ← f) x
+-- a plan, whether it names the results of tests or what they stand for
+pub planned-as : {c : Record} {a a′ : Bool} (rekey : Bool) {kind : Kind} {len : ℕ} {f f′ : Free} {p p′ : Plan} → a ≡ a′ → f ≡ f′ → p ≡ p′
+    → Planned c (a || rekey) kind len f p → Planned c (a′ || rekey) kind len f′ p′
+planned-as rekey e g h x = rw (← e, ← g, ← h) x
 
--- the steps of the table that frames
-pub framed-by : (b : Bool) (t : D.Table) (i n : ℕ) (kind : Kind) (m : ℕ) (bs : List ℕ) {w x y : D.Table} {d : Record} {end at : ℕ}
-    → w ≡ outSet b x end → x ≡ recordSet y i d → d ≡ withPeerWindow (recordAt t i) (recordAt t i .«recipient_window_size» - m) → y ≡ restPushed t n kind (length (drop m bs))
-    → end ≡ at + length (framesOf t i kind m bs) → at ≡ outUsed b t → w ≡ framedTable b t i n kind m bs
-unfolding N.framedTable
-framed-by b t i n kind m bs ew ex ed ey ee ea =
-    let fs = framesOf t i kind m bs in
-    let s = ee ∙ ap (λ k. k + length fs) ea in
-    ew ∙ (λ j. outSet b ((ex ∙ (λ l. recordSet (ey l) i (ed l))) j) (s j))
+-- the two counts of the buffers, picked
+pub out-set : (b : Bool) (t : D.Table) (n m : ℕ) {x y : ℕ} → x ≡ picked b (t .«staged_used») n → y ≡ picked b n (t .«sent_used»)
+    → _≡_ {A = SentData} (record { answer = Framed m; table = counted t x y }) (record { answer = Framed m; table = outSet b t n })
+out-set true t n m e f = λ j. record { answer = Framed m; table = counted t (e j) (f j) }
+out-set false t n m e f = λ j. record { answer = Framed m; table = counted t (e j) (f j) }
+
+-- the steps of a table that frames over y
+pub counted-by : (b : Bool) (t y : D.Table) (i : ℕ) (r : Record) (kind : Kind) (m : ℕ) (bs : List ℕ) {w : SentData} {x : D.Table} {d : Record} {end at : ℕ}
+    → w ≡ record { answer = Framed m; table = outSet b x end } → x ≡ recordSet y i d → d ≡ withPeerWindow r (r .«recipient_window_size» - m) → end ≡ at + length (runOf r kind m bs) → at ≡ outUsed b t
+    → w ≡ record { answer = Framed m; table = runCounted b t y i r kind m bs }
+counted-by b t y i r kind m bs ew ex ed ee ea =
+    let s = ee ∙ ap (λ k. k + length (runOf r kind m bs)) ea in
+    ew ∙ (λ j. record { answer = Framed m; table = outSet b ((ex ∙ (λ l. recordSet y i (ed l))) j) (s j) })
+
+-- a plan that frames, where it frames all and where it leaves a rest
+pub carried-all : (b : Bool) (t : D.Table) (i n : ℕ) (kind : Kind) (m : ℕ) (bs q out : List ℕ) {r : Record} {s : SentData} {o : List ℕ} → r ≡ recordAt t i → m ≡ length bs
+    → s ≡ record { answer = Framed m; table = runCounted b t t i r kind m bs } → o ≡ write (outUsed b t) (runOf r kind m bs) out
+    → record { answer = s .answer; table = s .table; queue = q; out = o } ≡ carried (Frame m) b t i n kind bs q out
+unfolding N.carried N.framedTable
+carried-all b t i n kind m bs q out e z es eo =
+    let d : length (drop m bs) ≡ 0 = length-drop m bs ∙ omega arith in
+    let ft = ap (λ x. runCounted b t t i x kind m bs) e ∙ ap (λ y. runCounted b t y i (recordAt t i) kind m bs) (sym (rest-none t n kind (length (drop m bs)) d)) in
+    let fo = eo ∙ ap (λ x. write (outUsed b t) (runOf x kind m bs) out) e in
+    λ j. record { answer = es j .answer; table = (ap (λ x. x .table) es ∙ ft) j; queue = sym (write-none (t .«queue_used») (drop m bs) q d) j; out = fo j }
+
+pub carried-rest : (b : Bool) (t : D.Table) (i n : ℕ) (kind : Kind) (m : ℕ) (bs q out : List ℕ) {r : Record} {s : SentData} {p o : List ℕ} → r ≡ recordAt t i → 0 < length bs - m
+    → s ≡ record { answer = Framed m; table = runCounted b t (pushed t n kind (length (drop m bs))) i r kind m bs }
+    → p ≡ write (t .«queue_used») (drop m bs) q → o ≡ write (outUsed b t) (runOf r kind m bs) out
+    → record { answer = s .answer; table = s .table; queue = p; out = o } ≡ carried (Frame m) b t i n kind bs q out
+unfolding N.carried N.framedTable
+carried-rest b t i n kind m bs q out e z es ep eo =
+    let d : 0 < length (drop m bs) = rw (length-drop m bs) z in
+    let ft =
+    ap (λ x. runCounted b t (pushed t n kind (length (drop m bs))) i x kind m bs) e
+    ∙ ap (λ y. runCounted b t y i (recordAt t i) kind m bs) (sym (rest-some t n kind (length (drop m bs)) d)) in
+    let fo = eo ∙ ap (λ x. write (outUsed b t) (runOf x kind m bs) out) e in
+    λ j. record { answer = es j .answer; table = (ap (λ x. x .table) es ∙ ft) j; queue = ep j; out = fo j }
 
 -- the way of a form over a state
 and-second : (a b c : Bool) → c ≡ false → (a && not c) && b ≡ a && b
@@ -355,12 +381,12 @@ lends-known : (r : Raw) (b rekey : Bool) (route : Route) → Lends b rekey route
 lends-known r b rekey route l n i h kind bs pl a e =
     ap (finish b r) e ∙ carries r (l .typed) (l .sound) b route (λ z. l .way (sym (l .same) ∙ z)) n i h kind bs (rw (l .same) pl)
 
-pub sends-known : (b rekey : Bool) (t : D.Table) (q out : List ℕ) (n i : ℕ) → HeldAt t n i → (kind : Kind) (bs : List ℕ) {p : Plan}
-    → Planned (recordAt t i) (anyEntry n (entriesOf (t .«entry_count») (t .entries) []) || rekey) kind (length bs) (freeOf b t (length q) (length out)) p
+pub sends-known : (b rekey : Bool) (t : D.Table) (q out : List ℕ) (n i : ℕ) → HeldAt t n i → (kind : Kind) (bs : List ℕ) {c : Record} {p : Plan} → c ≡ recordAt t i
+    → Planned c (anyEntry n (entriesOf (t .«entry_count») (t .entries) []) || rekey) kind (length bs) (freeOf b t (length q) (length out)) p
     → (a : After) → a ≡ carried p b t i n kind bs q out → Sending b rekey t q out (send kind n bs) a
 unfolding N.Sending
-sends-known true rekey t q out n i h kind bs pl a e other route l = lends-known (lent t q other out) true rekey route l n i h kind bs pl a e
-sends-known false rekey t q out n i h kind bs pl a e other route l = lends-known (lent t q out other) false rekey route l n i h kind bs pl a e
+sends-known true rekey t q out n i h kind bs z pl a e other route l = lends-known (lent t q other out) true rekey route l n i h kind bs (rw (← z) pl) a e
+sends-known false rekey t q out n i h kind bs z pl a e other route l = lends-known (lent t q out other) false rekey route l n i h kind bs (rw (← z) pl) a e
 
 pub sends-unknown : (b rekey : Bool) (t : D.Table) (q out : List ℕ) (n : ℕ) → look n (placesOf (t .used) (t .records)) ≡ nowhere → (kind : Kind) (bs : List ℕ)
     → Sending b rekey t q out (send kind n bs) (record { answer = Refused Unknown; table = t; queue = q; out = out })

@@ -7,6 +7,7 @@ use mathlib.Core.List.{List}
 use lib.ListN.{length, take, drop}
 use Rattle.octets.specs.Buf.{write}
 use Rattle.channel.specs.declared.Kind.{Kind}
+use Rattle.channel.specs.declared.Record.{Record}
 use Rattle.channel.specs.declared.Table as D
 use Rattle.channel.specs.declared.Sent.{Sent}
 use Rattle.channel.specs.declared.Sent.the-variants.{Framed, Refused}
@@ -34,6 +35,11 @@ pub record After : Type 0 where
 
 -- THE TABLE
 
+-- one of two counts
+abbrev pub picked : Bool → ℕ → ℕ → ℕ
+picked true x y = x
+picked false x y = y
+
 -- that buffer's used count as given
 abbrev pub outSet : Bool → D.Table → ℕ → D.Table
 outSet true t n = counted t (t .«staged_used») n
@@ -50,16 +56,20 @@ restPushed t n kind (suc k) = pushed t n kind (suc k)
 
 -- THE PLANS, over the record at place i and the bytes bs
 
--- the frames of the first m bytes
+-- the frames of the first m bytes over a record
+abbrev pub runOf : Record → Kind → ℕ → List ℕ → List ℕ
+runOf r kind m bs = frames (packets kind (peerOf r) (r .«recipient_maximum_packet_size») (take m bs))
+
 abbrev pub framesOf : D.Table → ℕ → Kind → ℕ → List ℕ → List ℕ
-framesOf t i kind m bs = frames (packets kind (peerOf (recordAt t i)) (recordAt t i .«recipient_maximum_packet_size») (take m bs))
+framesOf t i kind m bs = runOf (recordAt t i) kind m bs
+
+-- the table y with the window of the record charged, and with these frames counted behind t's
+abbrev pub runCounted : Bool → D.Table → D.Table → ℕ → Record → Kind → ℕ → List ℕ → D.Table
+runCounted b t y i r kind m bs = outSet b (recordSet y i (withPeerWindow r (r .«recipient_window_size» - m))) (outUsed b t + length (runOf r kind m bs))
 
 -- the window charged, the rest pushed, the frames counted
 unfoldable pub framedTable : Bool → D.Table → ℕ → ℕ → Kind → ℕ → List ℕ → D.Table
-framedTable b t i n kind m bs =
-    outSet b
-    (recordSet (restPushed t n kind (length (drop m bs))) i (withPeerWindow (recordAt t i) (recordAt t i .«recipient_window_size» - m)))
-    (outUsed b t + length (framesOf t i kind m bs))
+framedTable b t i n kind m bs = runCounted b t (restPushed t n kind (length (drop m bs))) i (recordAt t i) kind m bs
 
 unfoldable pub carried : Plan → Bool → D.Table → ℕ → ℕ → Kind → List ℕ → List ℕ → List ℕ → After
 carried (Refuse k) b t i n kind bs queue out = record { answer = Refused k; table = t; queue = queue; out = out }
@@ -81,18 +91,23 @@ pub record Enters (t : D.Table) (queue n : ℕ) : Type 0 where
   pub entry : t .«entry_count» < mostEntries
   pub bytes : t .«queue_used» + n ≤ queue
 
-pub record Frames (b : Bool) (t : D.Table) (i : ℕ) (kind : Kind) (m : ℕ) (bs : List ℕ) (queue out : ℕ) : Type 0 where
-  pub limit : 0 < recordAt t i .«recipient_maximum_packet_size»
+-- m bytes framed over a record
+pub record Runs (b : Bool) (t : D.Table) (r : Record) (kind : Kind) (m : ℕ) (bs : List ℕ) (out : ℕ) : Type 0 where
+  pub limit : 0 < r .«recipient_maximum_packet_size»
   pub part : m ≤ length bs
-  pub window : m ≤ recordAt t i .«recipient_window_size»
-  pub fits : outUsed b t + length (framesOf t i kind m bs) ≤ out
+  pub window : m ≤ r .«recipient_window_size»
+  pub fits : outUsed b t + length (runOf r kind m bs) ≤ out
+
+-- and the rest entered
+pub record Frames (b : Bool) (t : D.Table) (r : Record) (kind : Kind) (m : ℕ) (bs : List ℕ) (queue out : ℕ) : Type 0 where
+  pub now : Runs b t r kind m bs out
   pub rest : 0 < length bs - m → Enters t queue (length bs - m)
 
-abbrev pub Able : Plan → Bool → D.Table → ℕ → Kind → List ℕ → ℕ → ℕ → Type 0
-Able (Refuse k) b t i kind bs queue out = Unit {0}
-Able Nothing b t i kind bs queue out = Unit {0}
-Able Queue b t i kind bs queue out = Enters t queue (length bs)
-Able (Frame m) b t i kind bs queue out = Frames b t i kind m bs queue out
+abbrev pub Able : Plan → Bool → D.Table → Record → Kind → List ℕ → ℕ → ℕ → Type 0
+Able (Refuse k) b t r kind bs queue out = Unit {0}
+Able Nothing b t r kind bs queue out = Unit {0}
+Able Queue b t r kind bs queue out = Enters t queue (length bs)
+Able (Frame m) b t r kind bs queue out = Frames b t r kind m bs queue out
 
 -- THE ROUTE
 

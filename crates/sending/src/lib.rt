@@ -12,29 +12,31 @@ use channel::stored;
 use frames::put_run;
 use frames::size_of_run;
 use frames::smaller;
-use lookup::Found;
-use lookup::find;
-use lookup::has_entry;
+use lookup::Seat;
+use lookup::any_entry;
 use lookup::push_entry;
+use lookup::seat_of;
 use lookup::with_record;
 use octets::copy_in;
 use soundness::sound;
 ghost use mathlib.Core.Path.{_≡_};
 ghost use mathlib.Core.Bool.{true, false, _||_};
 ghost use mathlib.Core.List.{[]};
-ghost use Prim.Native.Nat.{_-_, _≤_, _<_};
+ghost use Prim.Native.Nat.{_+_, _-_, _≤_, _<_};
 ghost use lib.ListN.{length, drop};
 ghost use Rattle.octets.specs.Buf.{write};
 ghost use Rattle.channel.specs.declared.Kind.the-variants as K;
-ghost use Rattle.channel.specs.State.{placeCount, mostBytes, anyEntry};
+ghost use Rattle.channel.specs.declared.Sent.the-variants as S;
+ghost use Rattle.channel.specs.State as State;
+ghost use Rattle.channel.specs.State.{placeCount, mostEntries, mostBytes, anyEntry};
 ghost use Rattle.channel.specs.Call as C;
 ghost use Rattle.channel.specs.Change.{withPeerWindow};
 ghost use Rattle.channel.specs.Raw.{entriesOf};
 ghost use Rattle.channel.specs.Answers as Answers;
 ghost use Rattle.channel.specs.Called.{lent, outcome, called};
-ghost use Rattle.lookup.specs.Held.{recordAt};
+ghost use Rattle.lookup.specs.Update.{recordSet, entryPushed};
 ghost use Rattle.sending.specs.Planned.{outUsed, freeOf, enters, Planned};
-ghost use Rattle.sending.specs.Carried.{outSet, pushed, restPushed, framesOf, framedTable, carried, Enters, Frames, Able, Ready, Sending};
+ghost use Rattle.sending.specs.Carried.{outSet, picked, pushed, runOf, runCounted, Enters, Runs, Ready, Sending};
 
 // What a data call gives back.
 pub struct SentData {
@@ -124,42 +126,40 @@ fn out_used(t: Table, straight: bool) -> usize
     if straight { t.sent_used } else { t.staged_used }
 }
 
-// The same count as given.
-fn with_out(t: Table, straight: bool, n: usize) -> Table
-    ensures { λ r. ⌜ r ≡ outSet straight t n ⌝ }
+// One of two counts.
+fn pick(b: bool, x: usize, y: usize) -> usize
+    ensures { λ n. ⌜ n ≡ picked b x y ⌝ }
 {
-    let mut next = t;
-    if straight {
-        next.sent_used = n;
-        return next;
-    }
-    next.staged_used = n;
-    next
+    if b { x } else { y }
 }
 
-// The plan for the channel at place i.
-fn plan_at(
-    t: Table,
-    i: usize,
-    number: ChannelId,
-    kind: Kind,
-    len: usize,
-    queue: usize,
-    out: usize,
-    straight: bool,
-    rekey: bool,
-) -> Plan
-    requires { ⌜ (i < placeCount) × Ready straight t queue out ⌝ }
-    ensures { λ p. ⌜ Planned (recordAt t i) (anyEntry (number .0) (entriesOf (t .«entry_count») (t .entries) []) || rekey) kind len (freeOf straight t queue out) p ⌝ }
+// m bytes framed up to n: the answer, and that count as given. The arms meet in the counts, not in the table: a table that two
+// arms make is copied once more.
+fn framed(t: Table, straight: bool, n: usize, m: u32) -> SentData
+    ensures { λ r. ⌜ r ≡ record { answer = S.Framed m; table = outSet straight t n } ⌝ }
 {
-    let held = has_entry(t, number) | rekey;
+    let staged = pick(straight, t.staged_used, n);
+    let sent = pick(straight, n, t.sent_used);
+    let mut next = t;
+    next.staged_used = staged;
+    next.sent_used = sent;
+    SentData {
+        answer: Sent::Framed(m),
+        table: next,
+    }
+}
+
+// What is free over a queue and a buffer for frames of these lengths.
+fn free_of(t: Table, queue: usize, out: usize, straight: bool) -> Free
+    requires { ⌜ Ready straight t queue out ⌝ }
+    ensures { λ f. ⌜ f ≡ freeOf straight t queue out ⌝ }
+{
     let used = out_used(t, straight);
-    let free = Free {
+    Free {
         entries: 64 - t.entry_count,
         queue: queue - t.queue_used,
         out: out - used,
-    };
-    decide(t.records[i], held, kind, len, free)
+    }
 }
 
 // n bytes charged to the peer's window.
@@ -172,42 +172,77 @@ fn charge(r: Record, n: u32) -> Record
     next
 }
 
-// All of bytes as one entry.
-fn queue_all(t: Table, queue: &mut [u8], number: ChannelId, kind: Kind, bytes: &[u8]) -> Table
+// An entry of n bytes.
+fn entry_of(number: ChannelId, kind: Kind, n: usize) -> Entry
+    requires { ⌜ n ≤ mostBytes ⌝ }
+    ensures { λ e. ⌜ e ≡ record { number = number; kind = State.stored kind; left = n } ⌝ }
+{
+    Entry {
+        number: number,
+        kind: stored(kind),
+        left: n as u32,
+    }
+}
+
+// All of bytes as one entry. Here and below the table comes first and the bytes last: a store into a lent buffer between two uses
+// of a table costs a copy of it.
+fn queue_all(t: Table, queue: &mut [u8], number: ChannelId, kind: Kind, bytes: &[u8]) -> SentData
     requires { ⌜ (length (now queue) ≤ mostBytes) × Enters t (length (now queue)) (length (now bytes)) ⌝ }
-    ensures { λ r. ⌜ r ≡ pushed t (number .0) kind (length (now (bytes .entry))) ⌝ }
+    ensures { λ r. ⌜ r ≡ record { answer = S.Framed 0; table = pushed t (number .0) kind (length (now (bytes .entry))) } ⌝ }
     ensures { λ _. ⌜ now (queue .exit) ≡ write (t .«queue_used») (now (bytes .entry)) (now (queue .entry)) ⌝ }
 {
+    let next = push_entry(t, entry_of(number, kind, bytes.len()));
     let at = t.queue_used;
     copy_in(queue, at, bytes);
-    let n = bytes.len();
-    push_entry(
-        t,
-        Entry {
-            number: number,
-            kind: stored(kind),
-            left: n as u32,
-        },
-    )
-}
-
-// A remainder as one entry, if there is any.
-fn queue_rest(t: Table, queue: &mut [u8], number: ChannelId, kind: Kind, bytes: &[u8]) -> Table
-    requires { ⌜ (length (now queue) ≤ mostBytes) × (0 < length (now bytes) → Enters t (length (now queue)) (length (now bytes))) ⌝ }
-    ensures { λ r. ⌜ r ≡ restPushed t (number .0) kind (length (now (bytes .entry))) ⌝ }
-    ensures { λ _. ⌜ now (queue .exit) ≡ write (t .«queue_used») (now (bytes .entry)) (now (queue .entry)) ⌝ }
-{
-    let n = bytes.len();
-    if n == 0 {
-        return t;
+    SentData {
+        answer: Sent::Framed(0),
+        table: next,
     }
-    queue_all(t, queue, number, kind, bytes)
 }
 
-// m bytes of buf framed behind the used part of out, the window charged, and the rest queued.
-fn carry_frame(
+// The record at place i, and one entry more.
+fn with_rest(t: Table, i: usize, r: Record, e: Entry) -> Table
+    requires { ⌜ (i < placeCount) × (t .«entry_count» < mostEntries) × (t .«queue_used» + e .left ≤ mostBytes) ⌝ }
+    ensures { λ s. ⌜ s ≡ recordSet (entryPushed t e) i r ⌝ }
+{
+    let mut next = t;
+    let at = t.entry_count;
+    next.entries[at] = e;
+    next.entry_count = at + 1;
+    next.queue_used = t.queue_used + e.left as usize;
+    next.records[i] = r;
+    next
+}
+
+// The first m bytes of buf framed behind the used part of out, and the window of r, which is at place i, charged.
+fn frame_now(
     t: Table,
     i: usize,
+    r: Record,
+    m: u32,
+    out: &mut [u8],
+    straight: bool,
+    kind: Kind,
+    buf: &[u8],
+) -> SentData
+    requires { ⌜ (i < placeCount) × (length (now out) ≤ mostBytes) × Runs straight t r kind m (now buf) (length (now out)) ⌝ }
+    ensures { λ s. ⌜ s ≡ record { answer = S.Framed m; table = runCounted straight t t i r kind m (now (buf .entry)) } ⌝ }
+    ensures { λ _. ⌜ now (out .exit) ≡ write (outUsed straight t) (runOf r kind m (now (buf .entry))) (now (out .entry)) ⌝ }
+{
+    let next = with_record(t, i, charge(r, m));
+    let n = m as usize;
+    let at = out_used(t, straight);
+    let peer = r.recipient_channel;
+    let limit = r.recipient_maximum_packet_size;
+    let end = put_run(out, at, kind, peer, limit, &buf[..n]);
+    framed(next, straight, end, m)
+}
+
+// The same, and the rest of buf as one entry.
+fn frame_rest(
+    t: Table,
+    i: usize,
+    r: Record,
     m: u32,
     queue: &mut [u8],
     out: &mut [u8],
@@ -215,67 +250,22 @@ fn carry_frame(
     number: ChannelId,
     kind: Kind,
     buf: &[u8],
-) -> Table
-    requires { ⌜ (i < placeCount) × (length (now queue) ≤ mostBytes) × (length (now out) ≤ mostBytes) × Frames straight t i kind m (now buf) (length (now queue)) (length (now out)) ⌝ }
-    ensures { λ r. ⌜ r ≡ framedTable straight t i (number .0) kind m (now (buf .entry)) ⌝ }
-    ensures { λ _. ⌜ now (queue .exit) ≡ write (t .«queue_used») (drop m (now (buf .entry))) (now (queue .entry)) ⌝ }
-    ensures { λ _. ⌜ now (out .exit) ≡ write (outUsed straight t) (framesOf t i kind m (now (buf .entry))) (now (out .entry)) ⌝ }
-{
-    let r = t.records[i];
-    let n = m as usize;
-    let at = out_used(t, straight);
-    let end = put_run(
-        out,
-        at,
-        kind,
-        r.recipient_channel,
-        r.recipient_maximum_packet_size,
-        &buf[..n],
-    );
-    let rest = queue_rest(t, queue, number, kind, &buf[n..]);
-    let next = with_record(rest, i, charge(r, m));
-    with_out(next, straight, end)
-}
-
-// A plan carried out; it cannot fail.
-fn carry(
-    t: Table,
-    i: usize,
-    plan: Plan,
-    queue: &mut [u8],
-    out: &mut [u8],
-    straight: bool,
-    number: ChannelId,
-    kind: Kind,
-    buf: &[u8],
 ) -> SentData
-    requires { ⌜ (i < placeCount) × (length (now queue) ≤ mostBytes) × (length (now out) ≤ mostBytes) × Able plan straight t i kind (now buf) (length (now queue)) (length (now out)) ⌝ }
-    ensures { λ r. ⌜ record { answer = r .answer; table = r .table; queue = now (queue .exit); out = now (out .exit) } ≡ carried plan straight t i (number .0) kind (now (buf .entry)) (now (queue .entry)) (now (out .entry)) ⌝ }
+    requires { ⌜ (i < placeCount) × (length (now queue) ≤ mostBytes) × (length (now out) ≤ mostBytes) × Runs straight t r kind m (now buf) (length (now out)) × Enters t (length (now queue)) (length (now buf) - m) ⌝ }
+    ensures { λ s. ⌜ s ≡ record { answer = S.Framed m; table = runCounted straight t (pushed t (number .0) kind (length (drop m (now (buf .entry))))) i r kind m (now (buf .entry)) } ⌝ }
+    ensures { λ _. ⌜ now (queue .exit) ≡ write (t .«queue_used») (drop m (now (buf .entry))) (now (queue .entry)) ⌝ }
+    ensures { λ _. ⌜ now (out .exit) ≡ write (outUsed straight t) (runOf r kind m (now (buf .entry))) (now (out .entry)) ⌝ }
 {
-    match plan {
-        Plan::Refuse(k) => SentData {
-            answer: Sent::Refused(k),
-            table: t,
-        },
-        Plan::Nothing => SentData {
-            answer: Sent::Framed(0),
-            table: t,
-        },
-        Plan::Queue => {
-            let next = queue_all(t, queue, number, kind, buf);
-            SentData {
-                answer: Sent::Framed(0),
-                table: next,
-            }
-        }
-        Plan::Frame(m) => {
-            let next = carry_frame(t, i, m, queue, out, straight, number, kind, buf);
-            SentData {
-                answer: Sent::Framed(m),
-                table: next,
-            }
-        }
-    }
+    let n = m as usize;
+    let rest = entry_of(number, kind, buf.len() - n);
+    let next = with_rest(t, i, charge(r, m), rest);
+    let at = out_used(t, straight);
+    let peer = r.recipient_channel;
+    let limit = r.recipient_maximum_packet_size;
+    let end = put_run(out, at, kind, peer, limit, &buf[..n]);
+    let to = t.queue_used;
+    copy_in(queue, to, &buf[n..]);
+    framed(next, straight, end, m)
 }
 
 // One data call over a sound state. `out` is the buffer that frames go into: sent where `straight` says so, else staged.
@@ -295,25 +285,42 @@ fn send(
         (record { answer = r .answer; table = r .table; queue = now (queue .exit); out = now (out .exit) })
         ⌝ }
 {
-    let found = find(t, number);
-    let Found::At(i) = found else {
+    let records = t.records;
+    let found = seat_of(t.used, records, number);
+    let Seat::At(i, r) = found else {
         return SentData {
             answer: Sent::Refused(Refusal::Unknown),
             table: t,
         };
     };
-    let plan = plan_at(
-        t,
-        i,
-        number,
-        kind,
-        buf.len(),
-        queue.len(),
-        out.len(),
-        straight,
-        rekey,
-    );
-    carry(t, i, plan, queue, out, straight, number, kind, buf)
+    let entries = t.entries;
+    let held = any_entry(t.entry_count, entries, number) | rekey;
+    let free = free_of(t, queue.len(), out.len(), straight);
+    let plan = decide(r, held, kind, buf.len(), free);
+    match plan {
+        Plan::Refuse(k) => {
+            return SentData {
+                answer: Sent::Refused(k),
+                table: t,
+            };
+        }
+        Plan::Nothing => {
+            return SentData {
+                answer: Sent::Framed(0),
+                table: t,
+            };
+        }
+        Plan::Queue => {
+            return queue_all(t, queue, number, kind, buf);
+        }
+        Plan::Frame(m) => {
+            let n = m as usize;
+            if n == buf.len() {
+                return frame_now(t, i, r, m, out, straight, kind, buf);
+            }
+            frame_rest(t, i, r, m, queue, out, straight, number, kind, buf)
+        }
+    }
 }
 
 // The staged form: frames go into staged.
