@@ -10,18 +10,27 @@ pub struct State {
     bytes: Vec<u8>,
 }
 
+/// Frames of 9 bytes: EOF again and again, and the CLOSE of a channel that is not there afterwards.
+fn stage(channels: &mut Channels, peer: Peer, frames: usize) {
+    if frames > 0 {
+        channels.open_for_peer(1.into(), peer, 1 << 20, 32 * 1024).unwrap();
+        (1..frames).for_each(|_| channels.eof(1.into()).unwrap());
+        channels.close(1.into()).unwrap();
+    }
+}
+
 impl State {
     pub fn new(case: &Case) -> State {
         let staged = case.output() + case.staged_frames * 9;
         let mut channels = Channels::new(64 * 64, staged, case.output());
         let window_size = if matches!(case.call, Call::FlushPending { .. }) { 0 } else { 1 << 30 };
+        let peer = |channel| Peer { channel, window_size, maxpacket: case.limit() };
+        stage(&mut channels, peer(1), case.staged_frames);
         // The channel to be opened is the last one.
         let opened = case.channels - (case.call == Call::Open) as u32;
         for number in FIRST..FIRST + opened {
-            let peer = Peer { channel: number, window_size, maxpacket: case.limit() };
-            channels.open_for_peer(number.into(), peer, 1 << 20, 32 * 1024).unwrap();
+            channels.open_for_peer(number.into(), peer(number), 1 << 20, 32 * 1024).unwrap();
         }
-        (0..case.staged_frames).for_each(|_| channels.eof(FIRST.into()).unwrap());
         let mut bytes = vec![7; if let Call::Data { size, .. } = case.call { size } else { 64 }];
         match case.call {
             Call::FlushPending { entries } => {
