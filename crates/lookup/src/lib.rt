@@ -13,6 +13,7 @@ ghost use Rattle.laws.specs.Bits.{bit};
 ghost use Rattle.channel.specs.State.{placeCount, mostEntries, mostBytes, numberOf, anyEntry};
 ghost use Rattle.channel.specs.Raw.{entriesOf};
 ghost use Rattle.lookup.specs.Held.{Finds, Seats};
+ghost use Rattle.lookup.specs.Changed.{Fits, keptOf, applied};
 ghost use Rattle.lookup.specs.Update.{lastSet, recordSet, placeFreed, placeTaken, entryPushed, stagedMore, sentMore};
 
 // The place of a channel's record.
@@ -25,6 +26,20 @@ pub enum Found {
 pub enum Seat {
     At(usize, Record),
     Nothing,
+}
+
+// What a call leaves of a table: its numbers, and of each array the one element that may have changed.
+pub struct Change {
+    pub used: u32,
+    pub last: u32,
+    pub at: usize,
+    pub params: Record,
+    pub slot: usize,
+    pub entry: Entry,
+    pub entry_count: usize,
+    pub queue_used: usize,
+    pub staged_used: usize,
+    pub sent_used: usize,
 }
 
 // Place i, with its record, is used and has the number.
@@ -89,6 +104,45 @@ pub fn has_entry(t: Table, n: ChannelId) -> bool
 {
     let entries = t.entries;
     any_entry(t.entry_count, entries, n)
+}
+
+// The change that changes nothing: a call starts from it and alters what it must.
+pub fn kept(t: Table) -> Change
+    ensures { λ c. ⌜ c ≡ keptOf t ⌝ }
+{
+    Change {
+        used: t.used,
+        last: t.last,
+        at: 0,
+        params: t.records[0],
+        slot: 0,
+        entry: t.entries[0],
+        entry_count: t.entry_count,
+        queue_used: t.queue_used,
+        staged_used: t.staged_used,
+        sent_used: t.sent_used,
+    }
+}
+
+// The table with a change. A call works out the change and this is its last step: a table is copied once, however many arms the call has.
+pub fn changed(t: Table, c: Change) -> Table
+    requires { ⌜ Fits c ⌝ }
+    ensures { λ s. ⌜ s ≡ applied t c ⌝ }
+{
+    let mut next = t;
+    let at = c.at;
+    let params = c.params;
+    let slot = c.slot;
+    let entry = c.entry;
+    next.used = c.used;
+    next.last = c.last;
+    next.records[at] = params;
+    next.entries[slot] = entry;
+    next.entry_count = c.entry_count;
+    next.queue_used = c.queue_used;
+    next.staged_used = c.staged_used;
+    next.sent_used = c.sent_used;
+    next
 }
 
 // The word with the clear bit i set.

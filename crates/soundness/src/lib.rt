@@ -6,8 +6,11 @@ use channel::Entry;
 use channel::Record;
 use channel::Table;
 use frames::frame_at;
+use lookup::Seat;
+use lookup::any_entry;
 use lookup::entry_has;
 use lookup::place_has;
+use lookup::seat_of;
 ghost use mathlib.Core.Path.{_≡_};
 ghost use mathlib.Core.Bool.{true, false, _&&_, cond};
 ghost use Prim.Native.Nat.{_+_, _≤_, _<_, _%_};
@@ -18,6 +21,7 @@ ghost use Rattle.channel.specs.State.{placeCount, numbersInAll};
 ghost use Rattle.channel.specs.Sound.{isZero, isZeroEntry, isMarked, distinct, wholeFrames};
 ghost use Rattle.channel.specs.Called.{lent};
 ghost use Rattle.soundness.specs.Tested.{Tested, Sized, placesIn, limited, LookedOver, entriesSound, marksSound};
+ghost use Rattle.soundness.specs.Sees.{Sees};
 
 // Every field is zero.
 fn is_zero(r: Record) -> bool
@@ -288,4 +292,32 @@ pub fn sound(t: Table, queue: &[u8], staged: &[u8], sent: &[u8]) -> bool
         }
     }
     false
+}
+
+// What a call sees of its channel: that the state is not sound, that no record has the number, or the record's place, the record, and
+// whether the channel has an entry.
+pub enum Seen {
+    Unsound,
+    Unknown,
+    At(usize, Record, bool),
+}
+
+// Whether a state is sound and, if it is, what it has of the channel.
+pub fn see(t: Table, queue: &[u8], staged: &[u8], sent: &[u8], n: ChannelId) -> Seen
+    ensures { λ s. ⌜ Sees t (now (queue .entry)) (now (staged .entry)) (now (sent .entry)) (n .0) s ⌝ }
+{
+    if sound(t, queue, staged, sent) {
+        let records = t.records;
+        let found = seat_of(t.used, records, n);
+        match found {
+            Seat::Nothing => Seen::Unknown,
+            Seat::At(i, r) => {
+                let entries = t.entries;
+                let waits = any_entry(t.entry_count, entries, n);
+                Seen::At(i, r, waits)
+            }
+        }
+    } else {
+        Seen::Unsound
+    }
 }
