@@ -5,7 +5,7 @@ use Prim.Native.Nat.{ℕ, zero, suc, _+_, _-_, _≤_, _<_}
 use mathlib.Core.Path.{_≡_, refl, sym, ap, _∙_}
 use mathlib.Core.Bool.{Bool, true, false, _&&_, _||_, not}
 use mathlib.Core.List.{List, [], _∷_, _++_}
-use lib.ListN.{length, take, drop, length-drop}
+use lib.ListN.{length, set, take, drop, length-drop}
 use lib.Seq.{length-take-le}
 use lib.Dec.{ltb, leb, eqb}
 use native.Mathlib.Omega.{arith}
@@ -16,11 +16,11 @@ use Rattle.octets.proofs.Laws.{write-eq, write-nil}
 use Rattle.channel.specs.declared.Kind.{Kind}
 use Rattle.channel.specs.declared.Record.{Record}
 use Rattle.channel.specs.declared.Table as D
-use Rattle.channel.specs.declared.Refusal.the-variants.{Unknown}
+use Rattle.channel.specs.declared.Refusal.the-variants.{State, Unknown}
 use Rattle.channel.specs.declared.Sent.{Sent}
 use Rattle.channel.specs.declared.Sent.the-variants.{Framed, Refused}
 use Rattle.channel.specs.Wire.{frames, packets}
-use Rattle.channel.specs.State.{mostEntries, numberOf, peerOf, nowhere, look, anyEntry}
+use Rattle.channel.specs.State.{mostEntries, numberOf, peerOf, nowhere, look, anyEntry, stored}
 use Rattle.channel.specs.Call.{Form, Route, isStraight, direct, send, put, gave}
 use Rattle.channel.specs.Call as C
 use Rattle.channel.specs.Change.{withPeerWindow, withEntries}
@@ -31,21 +31,28 @@ use Rattle.channel.specs.Raw.{Raw, meaning, placesOf, entriesOf}
 use Rattle.channel.specs.Sound.{isSound}
 use Rattle.channel.specs.Called.{Typed, Outcome, called, lent, outcome}
 use Rattle.channel.specs.Answers as A
+use Rattle.lookup.specs.declared.Change.{Change}
 use Rattle.lookup.specs.Held.{HeldAt, recordAt}
-use Rattle.lookup.specs.Update.{counted, recordSet}
+use Rattle.lookup.specs.Update.{recordSet}
+use Rattle.lookup.specs.Changed.{keptOf, applied}
+use Rattle.lookup.proofs.Changes.{records-kept, entries-kept, all-kept}
 use Rattle.lookup.proofs.Limits.{limits}
 use Rattle.lookup.proofs.Bridge.{behind, entry}
-use Rattle.lookup.proofs.Branch.{refusing, same-is}
+use Rattle.lookup.proofs.Branch.{unsound, refusing, same-is}
 use Rattle.lookup.proofs.Decided.{straight-is, if-true, if-false, serves-is, held-has, held-passes, held-fails, none-passes, by-load}
 use Rattle.lookup.proofs.Payload.{QueueFull, no-entry, no-bytes, outMore, stagedAfter, sentAfter, OutFits, OutShort, sendPlan, queued-is, queued-full, framed-is, framed-rest-is, framed-full, rest-full}
 use Rattle.sending.specs.declared.Free.{Free}
+use Rattle.soundness.specs.declared.Seen.{Seen}
+use Rattle.soundness.specs.declared.Seen.the-variants as Y
+use Rattle.soundness.specs.Sees as W
 use Rattle.sending.specs.declared.SentData.{SentData}
+use Rattle.sending.specs.declared.Done.{Done}
 use Rattle.sending.specs.declared.Plan.{Plan}
 use Rattle.sending.specs.declared.Plan.the-variants.{Frame}
 use Rattle.sending.specs.Planned as P
 use Rattle.sending.specs.Planned.{outUsed, freeOf, enters, Sends, Planned}
 use Rattle.sending.specs.Carried as N
-use Rattle.sending.specs.Carried.{After, outSet, picked, pushed, restPushed, runOf, framesOf, runCounted, framedTable, carried, Enters, Able, Ready, Lends, Sending}
+use Rattle.sending.specs.Carried.{After, outSet, pushed, restPushed, entered, framedTo, runOf, framesOf, runCounted, framedTable, carried, after, SentOn, Enters, Able, lentOut, outcomeOf, SeenOut, Ready, SeenReady, Lends, Sending}
 
 -- ROOM
 
@@ -315,81 +322,122 @@ module _ (r : Raw) (ty : Typed r) (sd : isSound r ≡ true) (b : Bool) (route : 
 
 -- CALLEES' PROMISES put together
 
--- a plan, whether it names the results of tests or what they stand for
-pub planned-as : {c : Record} {a a′ : Bool} (rekey : Bool) {kind : Kind} {len : ℕ} {f f′ : Free} {p p′ : Plan} → a ≡ a′ → f ≡ f′ → p ≡ p′
-    → Planned c (a || rekey) kind len f p → Planned c (a′ || rekey) kind len f′ p′
-planned-as rekey e g h x = rw (← e, ← g, ← h) x
+-- nothing changed
+pub kept-after : (t : D.Table) (q out : List ℕ) (x : Sent) {d : Done} → d ≡ record { answer = x; change = keptOf t } → after t d q out ≡ record { answer = x; table = t; queue = q; out = out }
+kept-after t q out x e = ap (λ y. after t y q out) e ∙ ap (λ y. record { answer = x; table = y; queue = q; out = out }) (all-kept t)
 
--- the two counts of the buffers, picked
-pub out-set : (b : Bool) (t : D.Table) (n m : ℕ) {x y : ℕ} → x ≡ picked b (t .«staged_used») n → y ≡ picked b n (t .«sent_used»)
-    → _≡_ {A = SentData} (record { answer = Framed m; table = counted t x y }) (record { answer = Framed m; table = outSet b t n })
-out-set true t n m e f = λ j. record { answer = Framed m; table = counted t (e j) (f j) }
-out-set false t n m e f = λ j. record { answer = Framed m; table = counted t (e j) (f j) }
+-- a plan, whether it names the results of calls or what they stand for
+pub planned-as : {c : Record} {held : Bool} {kind : Kind} {len : ℕ} {f f′ : Free} {p p′ : Plan} → f ≡ f′ → p ≡ p′ → Planned c held kind len f p → Planned c held kind len f′ p′
+planned-as g h x = rw (← g, ← h) x
 
--- the steps of a table that frames over y
-pub counted-by : (b : Bool) (t y : D.Table) (i : ℕ) (r : Record) (kind : Kind) (m : ℕ) (bs : List ℕ) {w : SentData} {x : D.Table} {d : Record} {end at : ℕ}
-    → w ≡ record { answer = Framed m; table = outSet b x end } → x ≡ recordSet y i d → d ≡ withPeerWindow r (r .«recipient_window_size» - m) → end ≡ at + length (runOf r kind m bs) → at ≡ outUsed b t
-    → w ≡ record { answer = Framed m; table = runCounted b t y i r kind m bs }
-counted-by b t y i r kind m bs ew ex ed ee ea =
-    let s = ee ∙ ap (λ k. k + length (runOf r kind m bs)) ea in
-    ew ∙ (λ j. record { answer = Framed m; table = outSet b ((ex ∙ (λ l. recordSet y i (ed l))) j) (s j) })
+-- the table with the change of a plan that frames: all of it, or with an entry for the rest
+frames-none : (b : Bool) (t : D.Table) (i : ℕ) (d : Record) (end : ℕ) → applied t (framedTo b (keptOf t) i d end) ≡ outSet b (recordSet t i d) end
+frames-none true t i d end = λ j. record { last = t .last; used = t .used; records = set (t .records) i d; entries = entries-kept t j; «entry_count» = t .«entry_count»; «queue_used» = t .«queue_used»; «staged_used» = t .«staged_used»; «sent_used» = end }
+frames-none false t i d end = λ j. record { last = t .last; used = t .used; records = set (t .records) i d; entries = entries-kept t j; «entry_count» = t .«entry_count»; «queue_used» = t .«queue_used»; «staged_used» = end; «sent_used» = t .«sent_used» }
+
+frames-entered : (b : Bool) (t : D.Table) (i : ℕ) (d : Record) (end n : ℕ) (kind : Kind) (left : ℕ)
+    → applied t (entered (framedTo b (keptOf t) i d end) (record { number = record { 0 = n }; kind = stored kind; left = left })) ≡ outSet b (recordSet (pushed t n kind left) i d) end
+frames-entered true t i d end n kind left = refl
+frames-entered false t i d end n kind left = refl
+
+-- an entry alone
+pub queued-after : (t : D.Table) (n : ℕ) (kind : Kind) (bs q out : List ℕ) {q′ : List ℕ} {d : Done}
+    → d ≡ record { answer = Framed 0; change = entered (keptOf t) (record { number = record { 0 = n }; kind = stored kind; left = length bs }) } → q′ ≡ write (t .«queue_used») bs q
+    → after t d q′ out ≡ record { answer = Framed 0; table = pushed t n kind (length bs); queue = write (t .«queue_used») bs q; out = out }
+queued-after t n kind bs q out {q′ = q′} e f =
+    ap (λ x. after t x q′ out) e
+    ∙ (λ j. record { answer = Framed 0; table = record { last = t .last; used = t .used; records = records-kept t j; entries = set (t .entries) (t .«entry_count») (record { number = record { 0 = n }; kind = stored kind; left = length bs }); «entry_count» = t .«entry_count» + 1; «queue_used» = t .«queue_used» + length bs; «staged_used» = t .«staged_used»; «sent_used» = t .«sent_used» }; queue = f j; out = out })
 
 -- a plan that frames, where it frames all and where it leaves a rest
-pub carried-all : (b : Bool) (t : D.Table) (i n : ℕ) (kind : Kind) (m : ℕ) (bs q out : List ℕ) {r : Record} {s : SentData} {o : List ℕ} → r ≡ recordAt t i → m ≡ length bs
-    → s ≡ record { answer = Framed m; table = runCounted b t t i r kind m bs } → o ≡ write (outUsed b t) (runOf r kind m bs) out
-    → record { answer = s .answer; table = s .table; queue = q; out = o } ≡ carried (Frame m) b t i n kind bs q out
-unfolding N.carried N.framedTable
-carried-all b t i n kind m bs q out e z es eo =
-    let d : length (drop m bs) ≡ 0 = length-drop m bs ∙ omega arith in
-    let ft = ap (λ x. runCounted b t t i x kind m bs) e ∙ ap (λ y. runCounted b t y i (recordAt t i) kind m bs) (sym (rest-none t n kind (length (drop m bs)) d)) in
-    let fo = eo ∙ ap (λ x. write (outUsed b t) (runOf x kind m bs) out) e in
-    λ j. record { answer = es j .answer; table = (ap (λ x. x .table) es ∙ ft) j; queue = sym (write-none (t .«queue_used») (drop m bs) q d) j; out = fo j }
+module _ (b : Bool) (t : D.Table) (i n : ℕ) (kind : Kind) (m : ℕ) (bs q out : List ℕ) {r : Record} {d : Record} {end at : ℕ} (same : r ≡ recordAt t i)
+    (paid : d ≡ withPeerWindow r (r .«recipient_window_size» - m)) (up : end ≡ at + length (runOf r kind m bs)) (from : at ≡ outUsed b t) where
+  -- the table y with the record and the count that the code has for them
+  runs : (y : D.Table) → outSet b (recordSet y i d) end ≡ runCounted b t y i (recordAt t i) kind m bs
+  runs y =
+      (λ j. outSet b (recordSet y i (paid j)) ((up ∙ ap (λ k. k + length (runOf r kind m bs)) from) j))
+      ∙ ap (λ x. runCounted b t y i x kind m bs) same
 
-pub carried-rest : (b : Bool) (t : D.Table) (i n : ℕ) (kind : Kind) (m : ℕ) (bs q out : List ℕ) {r : Record} {s : SentData} {p o : List ℕ} → r ≡ recordAt t i → 0 < length bs - m
-    → s ≡ record { answer = Framed m; table = runCounted b t (pushed t n kind (length (drop m bs))) i r kind m bs }
-    → p ≡ write (t .«queue_used») (drop m bs) q → o ≡ write (outUsed b t) (runOf r kind m bs) out
-    → record { answer = s .answer; table = s .table; queue = p; out = o } ≡ carried (Frame m) b t i n kind bs q out
-unfolding N.carried N.framedTable
-carried-rest b t i n kind m bs q out e z es ep eo =
-    let d : 0 < length (drop m bs) = rw (length-drop m bs) z in
-    let ft =
-    ap (λ x. runCounted b t (pushed t n kind (length (drop m bs))) i x kind m bs) e
-    ∙ ap (λ y. runCounted b t y i (recordAt t i) kind m bs) (sym (rest-some t n kind (length (drop m bs)) d)) in
-    let fo = eo ∙ ap (λ x. write (outUsed b t) (runOf x kind m bs) out) e in
-    λ j. record { answer = es j .answer; table = (ap (λ x. x .table) es ∙ ft) j; queue = ep j; out = fo j }
+  put-out : {o : List ℕ} → o ≡ write at (runOf r kind m bs) out → o ≡ write (outUsed b t) (framesOf t i kind m bs) out
+  put-out e = e ∙ (λ j. write (from j) (runOf (same j) kind m bs) out)
+
+  pub carried-all : {c : Change} {o : List ℕ} → m ≡ length bs → c ≡ framedTo b (keptOf t) i d end → o ≡ write at (runOf r kind m bs) out
+      → record { answer = Framed m; table = applied t c; queue = q; out = o } ≡ carried (Frame m) b t i n kind bs q out
+  unfolding N.carried N.framedTable
+  carried-all z e f =
+      let none : length (drop m bs) ≡ 0 = length-drop m bs ∙ omega arith in
+      let table = ap (applied t) e ∙ frames-none b t i d end ∙ runs t ∙ ap (λ y. runCounted b t y i (recordAt t i) kind m bs) (sym (rest-none t n kind (length (drop m bs)) none)) in
+      λ j. record { answer = Framed m; table = table j; queue = sym (write-none (t .«queue_used») (drop m bs) q none) j; out = put-out f j }
+
+  pub carried-rest : {c : Change} {p o : List ℕ} → 0 < length bs - m
+      → c ≡ entered (framedTo b (keptOf t) i d end) (record { number = record { 0 = n }; kind = stored kind; left = length bs - m })
+      → p ≡ write (t .«queue_used») (drop m bs) q → o ≡ write at (runOf r kind m bs) out
+      → record { answer = Framed m; table = applied t c; queue = p; out = o } ≡ carried (Frame m) b t i n kind bs q out
+  unfolding N.carried N.framedTable
+  carried-rest z e f g =
+      let k = length (drop m bs) in
+      let some : 0 < k = rw (length-drop m bs) z in
+      let entry = ap (λ x. entered (framedTo b (keptOf t) i d end) (record { number = record { 0 = n }; kind = stored kind; left = x })) (sym (length-drop m bs)) in
+      let table =
+      ap (applied t) (e ∙ entry) ∙ frames-entered b t i d end n kind k ∙ runs (pushed t n kind k) ∙ ap (λ y. runCounted b t y i (recordAt t i) kind m bs) (sym (rest-some t n kind k some)) in
+      λ j. record { answer = Framed m; table = table j; queue = f j; out = put-out g j }
 
 -- the way of a form over a state
 and-second : (a b c : Bool) → c ≡ false → (a && not c) && b ≡ a && b
 and-second true b c e = ap (λ x. not x && b) e
 and-second false b c e = refl
 
-pub lends : (r : Raw) → Typed r → isSound r ≡ true → (form : Form) (rekey b : Bool) → isStraight form && eqb (r .held .«staged_used») 0 ≡ b → Lends b rekey (record { form = form; rekey = rekey }) r
+pub lends : (r : Raw) → Typed r → (form : Form) (rekey b : Bool) → isStraight form && eqb (r .held .«staged_used») 0 ≡ b → Lends b rekey (record { form = form; rekey = rekey }) r
 unfolding C.direct
-lends r ty sd form rekey b e =
+lends r ty form rekey b e =
     record {
       typed = ty;
-      sound = sd;
       same = refl;
-      way = λ z. straight-is r sd (isStraight form && not rekey) ∙ and-second (isStraight form) (eqb (r .held .«staged_used») 0) rekey z ∙ e;
+      way = λ sd z. straight-is r sd (isStraight form && not rekey) ∙ and-second (isStraight form) (eqb (r .held .«staged_used») 0) rekey z ∙ e;
     }
+
+-- what a public call gives back is what was done
+pub finished : {s : SentData} {x : Sent} {t : D.Table} {q st se : List ℕ} {o : Outcome} → s ≡ record { answer = x; table = t } → outcome (A.sent x) t q st se ≡ o → outcome (A.sent (s .answer)) (s .table) q st se ≡ o
+finished {q = q} {st = st} {se = se} e f = ap (λ (y : SentData). outcome (A.sent (y .answer)) (y .table) q st se) e ∙ f
 
 -- THE SAME OVER THE LENT BUFFERS, whichever of the two the frames go into
 
-lends-known : (r : Raw) (b rekey : Bool) (route : Route) → Lends b rekey route r → (n i : ℕ) → HeldAt (r .held) n i → (kind : Kind) (bs : List ℕ) {p : Plan}
+pub seen-ready : (b : Bool) (t : D.Table) (q out other : List ℕ) (n : ℕ) (s : Seen) → SeenOut b t q out other n s → SeenReady b t (length q) (length out) s
+unfolding N.SeenOut N.SeenReady W.SeenAs
+seen-ready b t q out other n Y.Unsound e = tt
+seen-ready b t q out other n Y.Unknown e = tt
+seen-ready true t q out other n (Y.At i r w) e = record { ready = ready true (lent t q other out) (e .sound); place = e .held .place; record-is = e .record-is }
+seen-ready false t q out other n (Y.At i r w) e = record { ready = ready false (lent t q out other) (e .sound); place = e .held .place; record-is = e .record-is }
+
+-- a record was found
+lends-known : (r : Raw) (b rekey : Bool) (route : Route) → Lends b rekey route r → isSound r ≡ true → (n i : ℕ) → HeldAt (r .held) n i → (kind : Kind) (bs : List ℕ) {p : Plan}
     → Planned (recordAt (r .held) i) (anyEntry n (entriesOf (r .held .«entry_count») (r .held .entries) []) || rekey) kind (length bs) (freeOf b (r .held) (length (r .queue)) (length (outOf b r))) p
     → (a : After) → a ≡ carried p b (r .held) i n kind bs (r .queue) (outOf b r) → finish b r a ≡ called r (put route (send kind n bs))
-lends-known r b rekey route l n i h kind bs pl a e =
-    ap (finish b r) e ∙ carries r (l .typed) (l .sound) b route (λ z. l .way (sym (l .same) ∙ z)) n i h kind bs (rw (l .same) pl)
+lends-known r b rekey route l sd n i h kind bs pl a e =
+    ap (finish b r) e ∙ carries r (l .typed) sd b route (λ z. l .way sd (sym (l .same) ∙ z)) n i h kind bs (rw (l .same) pl)
 
-pub sends-known : (b rekey : Bool) (t : D.Table) (q out : List ℕ) (n i : ℕ) → HeldAt t n i → (kind : Kind) (bs : List ℕ) {c : Record} {p : Plan} → c ≡ recordAt t i
-    → Planned c (anyEntry n (entriesOf (t .«entry_count») (t .entries) []) || rekey) kind (length bs) (freeOf b t (length q) (length out)) p
-    → (a : After) → a ≡ carried p b t i n kind bs q out → Sending b rekey t q out (send kind n bs) a
-unfolding N.Sending
-sends-known true rekey t q out n i h kind bs z pl a e other route l = lends-known (lent t q other out) true rekey route l n i h kind bs (rw (← z) pl) a e
-sends-known false rekey t q out n i h kind bs z pl a e other route l = lends-known (lent t q out other) false rekey route l n i h kind bs (rw (← z) pl) a e
+pub sends-known : (b rekey : Bool) (t : D.Table) (q out : List ℕ) (n i : ℕ) (c : Record) (w : Bool) (kind : Kind) (bs : List ℕ) {d : Done} {q′ out′ : List ℕ}
+    → SentOn b t i c (w || rekey) n kind bs q out d q′ out′ → Sending b rekey t q out n (send kind n bs) (Y.At i c w) (after t d q′ out′)
+unfolding N.Sending N.SeenOut W.SeenAs
+sends-known true rekey t q out n i c w kind bs o other route s l =
+    lends-known (lent t q other out) true rekey route l (s .sound) n i (s .held) kind bs (rw (← s .record-is, ← s .waits-is) (o .planned)) _ (o .carries .is)
+sends-known false rekey t q out n i c w kind bs o other route s l =
+    lends-known (lent t q out other) false rekey route l (s .sound) n i (s .held) kind bs (rw (← s .record-is, ← s .waits-is) (o .planned)) _ (o .carries .is)
 
-pub sends-unknown : (b rekey : Bool) (t : D.Table) (q out : List ℕ) (n : ℕ) → look n (placesOf (t .used) (t .records)) ≡ nowhere → (kind : Kind) (bs : List ℕ)
-    → Sending b rekey t q out (send kind n bs) (record { answer = Refused Unknown; table = t; queue = q; out = out })
-unfolding N.Sending
-sends-unknown true rekey t q out n e kind bs other route l = unknown (lent t q other out) (l .typed) (l .sound) true route n e kind bs
-sends-unknown false rekey t q out n e kind bs other route l = unknown (lent t q out other) (l .typed) (l .sound) false route n e kind bs
+-- nothing is changed
+keeps : (b : Bool) (t : D.Table) (q out other : List ℕ) (x : Sent) {d : Done} → d ≡ record { answer = x; change = keptOf t }
+    → outcomeOf b (after t d q out) other ≡ record { answer = A.sent x; state = lentOut b t q out other }
+keeps b t q out other x e = ap (λ y. outcomeOf b y other) (kept-after t q out x e)
+
+-- no record has the number
+pub sends-unknown : (b rekey : Bool) (t : D.Table) (q out : List ℕ) (n : ℕ) (kind : Kind) (bs : List ℕ) {d : Done} → d ≡ record { answer = Refused Unknown; change = keptOf t }
+    → Sending b rekey t q out n (send kind n bs) Y.Unknown (after t d q out)
+unfolding N.Sending N.SeenOut W.SeenAs
+sends-unknown true rekey t q out n kind bs e other route s l = keeps true t q out other (Refused Unknown) e ∙ unknown (lent t q other out) (l .typed) (s .0) true route n (s .1) kind bs
+sends-unknown false rekey t q out n kind bs e other route s l = keeps false t q out other (Refused Unknown) e ∙ unknown (lent t q out other) (l .typed) (s .0) false route n (s .1) kind bs
+
+-- the state is not sound
+pub sends-unsound : (b rekey : Bool) (t : D.Table) (q out : List ℕ) (n : ℕ) (kind : Kind) (bs : List ℕ) {d : Done} → d ≡ record { answer = Refused State; change = keptOf t }
+    → Sending b rekey t q out n (send kind n bs) Y.Unsound (after t d q out)
+unfolding N.Sending N.SeenOut W.SeenAs A.sent A.refusal A.refusalNumber
+sends-unsound true rekey t q out n kind bs e other route s l = keeps true t q out other (Refused State) e ∙ sym (unsound (lent t q other out) _ s)
+sends-unsound false rekey t q out n kind bs e other route s l = keeps false t q out other (Refused State) e ∙ sym (unsound (lent t q out other) _ s)

@@ -8,10 +8,11 @@ use lib.ListN.{length, take, drop}
 use Rattle.octets.specs.Buf.{write}
 use Rattle.channel.specs.declared.Kind.{Kind}
 use Rattle.channel.specs.declared.Record.{Record}
+use Rattle.channel.specs.declared.Entry as E
 use Rattle.channel.specs.declared.Table as D
 use Rattle.channel.specs.declared.Sent.{Sent}
 use Rattle.channel.specs.declared.Sent.the-variants.{Framed, Refused}
-use Rattle.channel.specs.State.{mostEntries, mostBytes, peerOf, stored}
+use Rattle.channel.specs.State.{placeCount, mostEntries, mostBytes, peerOf, stored}
 use Rattle.channel.specs.Wire.{frames, packets}
 use Rattle.channel.specs.Call.{Route, Load, put, direct}
 use Rattle.channel.specs.Change.{withPeerWindow}
@@ -20,11 +21,17 @@ use Rattle.channel.specs.Raw.{Raw, meaning}
 use Rattle.channel.specs.Sound.{isSound}
 use Rattle.channel.specs.Called.{Typed, Outcome, called, lent}
 use Rattle.channel.specs.Answers as A
+use Rattle.lookup.specs.declared.Change.{Change}
 use Rattle.lookup.specs.Held.{recordAt}
 use Rattle.lookup.specs.Update.{counted, recordSet, entryPushed}
+use Rattle.lookup.specs.Changed.{Fits, applied}
+use Rattle.soundness.specs.declared.Seen.{Seen}
+use Rattle.soundness.specs.declared.Seen.the-variants.{Unsound, Unknown, At}
+use Rattle.soundness.specs.Sees.{SeenAs}
+use Rattle.sending.specs.declared.Done.{Done}
 use Rattle.sending.specs.declared.Plan.{Plan}
 use Rattle.sending.specs.declared.Plan.the-variants.{Refuse, Nothing, Queue, Frame}
-use Rattle.sending.specs.Planned.{outUsed}
+use Rattle.sending.specs.Planned.{outUsed, freeOf, Planned}
 
 -- the answer, the table and the two buffers
 pub record After : Type 0 where
@@ -53,6 +60,40 @@ pushed t n kind left = entryPushed t (record { number = record { 0 = n }; kind =
 unfoldable pub restPushed : D.Table → ℕ → Kind → ℕ → D.Table
 restPushed t n kind zero = t
 restPushed t n kind (suc k) = pushed t n kind (suc k)
+
+-- THE CHANGE
+
+-- one entry more
+abbrev pub entered : Change → E.Entry → Change
+entered c e =
+    record {
+      last = c .last;
+      used = c .used;
+      at = c .at;
+      params = c .params;
+      slot = c .«entry_count»;
+      entry = e;
+      «entry_count» = c .«entry_count» + 1;
+      «queue_used» = c .«queue_used» + e .left;
+      «staged_used» = c .«staged_used»;
+      «sent_used» = c .«sent_used»;
+    }
+
+-- another record at place i, and frames up to `end`
+abbrev pub framedTo : Bool → Change → ℕ → Record → ℕ → Change
+framedTo b c i r end =
+    record {
+      last = c .last;
+      used = c .used;
+      at = i;
+      params = r;
+      slot = c .slot;
+      entry = c .entry;
+      «entry_count» = c .«entry_count»;
+      «queue_used» = c .«queue_used»;
+      «staged_used» = picked b (c .«staged_used») end;
+      «sent_used» = picked b end (c .«sent_used»);
+    }
 
 -- THE PLANS, over the record at place i and the bytes bs
 
@@ -83,6 +124,20 @@ carried (Frame m) b t i n kind bs queue out =
       queue = write (t .«queue_used») (drop m bs) queue;
       out = write (outUsed b t) (framesOf t i kind m bs) out;
     }
+
+-- what carrying out leaves: a change that can be made, and after it what the plan says
+abbrev pub after : D.Table → Done → List ℕ → List ℕ → After
+after t d queue out = record { answer = d .answer; table = applied t (d .change); queue = queue; out = out }
+
+pub record Carries (p : Plan) (b : Bool) (t : D.Table) (i n : ℕ) (kind : Kind) (bs queue out : List ℕ) (d : Done) (queue′ out′ : List ℕ) : Type 0 where
+  pub fits : Fits (d .change)
+  pub is : after t d queue′ out′ ≡ carried p b t i n kind bs queue out
+
+-- the plan that was decided over the record r is carried out
+pub record SentOn (b : Bool) (t : D.Table) (i : ℕ) (r : Record) (held : Bool) (n : ℕ) (kind : Kind) (bs queue out : List ℕ) (d : Done) (queue′ out′ : List ℕ) : Type 0 where
+  pub plan : Plan
+  pub planned : Planned r held kind (length bs) (freeOf b t (length queue) (length out)) plan
+  pub carries : Carries plan b t i n kind bs queue out d queue′ out′
 
 -- WHAT IT ASKS
 
@@ -119,6 +174,11 @@ lentOut false t queue out other = lent t queue out other
 abbrev pub outcomeOf : Bool → After → List ℕ → Outcome
 outcomeOf b a other = record { answer = A.sent (a .answer); state = lentOut b (a .table) (a .queue) (a .out) other }
 
+-- what is seen of the channel in that state
+unfoldable pub SeenOut : Bool → D.Table → List ℕ → List ℕ → List ℕ → ℕ → Seen → Type 0
+SeenOut true t queue out other n s = SeenAs t queue other out n s
+SeenOut false t queue out other n s = SeenAs t queue out other n s
+
 -- the bounds of a sound state's two buffers
 pub record Ready (b : Bool) (t : D.Table) (queue out : ℕ) : Type 0 where
   pub queueLong : queue ≤ mostBytes
@@ -127,14 +187,24 @@ pub record Ready (b : Bool) (t : D.Table) (queue out : ℕ) : Type 0 where
   pub outUsed : outUsed b t ≤ out
   pub few : t .«entry_count» ≤ mostEntries
 
--- the state is sound, and frames of this route go into that buffer
+-- the record at place i is r, in a table with those bounds
+pub record ReadyAt (b : Bool) (t : D.Table) (queue out i : ℕ) (r : Record) : Type 0 where
+  pub ready : Ready b t queue out
+  pub place : i < placeCount
+  pub record-is : r ≡ recordAt t i
+
+unfoldable pub SeenReady : Bool → D.Table → ℕ → ℕ → Seen → Type 0
+SeenReady b t queue out Unsound = Unit {0}
+SeenReady b t queue out Unknown = Unit {0}
+SeenReady b t queue out (At i r waits) = ReadyAt b t queue out i r
+
+-- frames of this route go into that buffer
 pub record Lends (b rekey : Bool) (route : Route) (r : Raw) : Type 0 where
   pub typed : Typed r
-  pub sound : isSound r ≡ true
   pub same : route .rekey ≡ rekey
-  pub way : rekey ≡ false → goesStraight (direct route) (meaning r) ≡ b
+  pub way : isSound r ≡ true → rekey ≡ false → goesStraight (direct route) (meaning r) ≡ b
 
 -- the call is the definition's, whatever the other buffer holds
-unfoldable pub Sending : Bool → Bool → D.Table → List ℕ → List ℕ → Load → After → Type 0
-Sending b rekey t queue out load a =
-    (other : List ℕ) (route : Route) → Lends b rekey route (lentOut b t queue out other) → outcomeOf b a other ≡ called (lentOut b t queue out other) (put route load)
+unfoldable pub Sending : Bool → Bool → D.Table → List ℕ → List ℕ → ℕ → Load → Seen → After → Type 0
+Sending b rekey t queue out n load s a =
+    (other : List ℕ) (route : Route) → SeenOut b t queue out other n s → Lends b rekey route (lentOut b t queue out other) → outcomeOf b a other ≡ called (lentOut b t queue out other) (put route load)

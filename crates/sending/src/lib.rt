@@ -12,36 +12,42 @@ use channel::stored;
 use frames::put_run;
 use frames::size_of_run;
 use frames::smaller;
-use lookup::Seat;
-use lookup::any_entry;
-use lookup::push_entry;
-use lookup::seat_of;
-use lookup::with_record;
+use lookup::Change;
+use lookup::changed;
+use lookup::kept;
 use octets::copy_in;
-use soundness::sound;
+use soundness::Seen;
+use soundness::see;
 ghost use mathlib.Core.Path.{_≡_};
-ghost use mathlib.Core.Bool.{true, false, _||_};
-ghost use mathlib.Core.List.{[]};
+ghost use mathlib.Core.Bool.{true, false};
 ghost use Prim.Native.Nat.{_+_, _-_, _≤_, _<_};
-ghost use lib.ListN.{length, drop};
+ghost use lib.ListN.{length};
 ghost use Rattle.octets.specs.Buf.{write};
 ghost use Rattle.channel.specs.declared.Kind.the-variants as K;
 ghost use Rattle.channel.specs.declared.Sent.the-variants as S;
 ghost use Rattle.channel.specs.State as State;
-ghost use Rattle.channel.specs.State.{placeCount, mostEntries, mostBytes, anyEntry};
+ghost use Rattle.channel.specs.State.{placeCount, mostEntries, mostBytes};
 ghost use Rattle.channel.specs.Call as C;
 ghost use Rattle.channel.specs.Change.{withPeerWindow};
-ghost use Rattle.channel.specs.Raw.{entriesOf};
 ghost use Rattle.channel.specs.Answers as Answers;
 ghost use Rattle.channel.specs.Called.{lent, outcome, called};
-ghost use Rattle.lookup.specs.Update.{recordSet, entryPushed};
+ghost use Rattle.lookup.specs.Held.{recordAt};
+ghost use Rattle.lookup.specs.Changed.{Fits, keptOf, applied};
+ghost use Rattle.soundness.specs.Sees.{Sees};
+ghost use Rattle.sending.specs.declared.Plan.the-variants as P;
 ghost use Rattle.sending.specs.Planned.{outUsed, freeOf, enters, Planned};
-ghost use Rattle.sending.specs.Carried.{outSet, picked, pushed, runOf, runCounted, Enters, Runs, Ready, Sending};
+ghost use Rattle.sending.specs.Carried.{picked, entered, framedTo, Enters, Frames, Carries, SentOn, Ready, ReadyAt, SeenReady, Sending, after};
 
 // What a data call gives back.
 pub struct SentData {
     pub answer: Sent,
     pub table: Table,
+}
+
+// What a data call answers, and what it leaves of the table.
+struct Done {
+    answer: Sent,
+    change: Change,
 }
 
 // What is free: entries, bytes of the queue, and bytes of the buffer that frames go into.
@@ -133,22 +139,6 @@ fn pick(b: bool, x: usize, y: usize) -> usize
     if b { x } else { y }
 }
 
-// m bytes framed up to n: the answer, and that count as given. The arms meet in the counts, not in the table: a table that two
-// arms make is copied once more.
-fn framed(t: Table, straight: bool, n: usize, m: u32) -> SentData
-    ensures { λ r. ⌜ r ≡ record { answer = S.Framed m; table = outSet straight t n } ⌝ }
-{
-    let staged = pick(straight, t.staged_used, n);
-    let sent = pick(straight, n, t.sent_used);
-    let mut next = t;
-    next.staged_used = staged;
-    next.sent_used = sent;
-    SentData {
-        answer: Sent::Framed(m),
-        table: next,
-    }
-}
-
 // What is free over a queue and a buffer for frames of these lengths.
 fn free_of(t: Table, queue: usize, out: usize, straight: bool) -> Free
     requires { ⌜ Ready straight t queue out ⌝ }
@@ -184,62 +174,61 @@ fn entry_of(number: ChannelId, kind: Kind, n: usize) -> Entry
     }
 }
 
-// All of bytes as one entry. Here and below the table comes first and the bytes last: a store into a lent buffer between two uses
-// of a table costs a copy of it.
-fn queue_all(t: Table, queue: &mut [u8], number: ChannelId, kind: Kind, bytes: &[u8]) -> SentData
-    requires { ⌜ (length (now queue) ≤ mostBytes) × Enters t (length (now queue)) (length (now bytes)) ⌝ }
-    ensures { λ r. ⌜ r ≡ record { answer = S.Framed 0; table = pushed t (number .0) kind (length (now (bytes .entry))) } ⌝ }
-    ensures { λ _. ⌜ now (queue .exit) ≡ write (t .«queue_used») (now (bytes .entry)) (now (queue .entry)) ⌝ }
+// The change with one entry more; its bytes are the caller's to put into the queue.
+fn enter(c: Change, e: Entry) -> Change
+    requires { ⌜ (c .«entry_count» < mostEntries) × (c .«queue_used» + e .left ≤ mostBytes) ⌝ }
+    ensures { λ d. ⌜ d ≡ entered c e ⌝ }
 {
-    let next = push_entry(t, entry_of(number, kind, bytes.len()));
-    let at = t.queue_used;
-    copy_in(queue, at, bytes);
-    SentData {
-        answer: Sent::Framed(0),
-        table: next,
-    }
-}
-
-// The record at place i, and one entry more.
-fn with_rest(t: Table, i: usize, r: Record, e: Entry) -> Table
-    requires { ⌜ (i < placeCount) × (t .«entry_count» < mostEntries) × (t .«queue_used» + e .left ≤ mostBytes) ⌝ }
-    ensures { λ s. ⌜ s ≡ recordSet (entryPushed t e) i r ⌝ }
-{
-    let mut next = t;
-    let at = t.entry_count;
-    next.entries[at] = e;
-    next.entry_count = at + 1;
-    next.queue_used = t.queue_used + e.left as usize;
-    next.records[i] = r;
+    let mut next = c;
+    next.slot = c.entry_count;
+    next.entry = e;
+    next.entry_count = c.entry_count + 1;
+    next.queue_used = c.queue_used + e.left as usize;
     next
 }
 
-// The first m bytes of buf framed behind the used part of out, and the window of r, which is at place i, charged.
-fn frame_now(
-    t: Table,
-    i: usize,
-    r: Record,
-    m: u32,
-    out: &mut [u8],
-    straight: bool,
-    kind: Kind,
-    buf: &[u8],
-) -> SentData
-    requires { ⌜ (i < placeCount) × (length (now out) ≤ mostBytes) × Runs straight t r kind m (now buf) (length (now out)) ⌝ }
-    ensures { λ s. ⌜ s ≡ record { answer = S.Framed m; table = runCounted straight t t i r kind m (now (buf .entry)) } ⌝ }
-    ensures { λ _. ⌜ now (out .exit) ≡ write (outUsed straight t) (runOf r kind m (now (buf .entry))) (now (out .entry)) ⌝ }
+// The change with the record at place i as given, and with frames up to `end`.
+fn frame_to(c: Change, i: usize, r: Record, straight: bool, end: usize) -> Change
+    ensures { λ d. ⌜ d ≡ framedTo straight c i r end ⌝ }
 {
-    let next = with_record(t, i, charge(r, m));
-    let n = m as usize;
-    let at = out_used(t, straight);
-    let peer = r.recipient_channel;
-    let limit = r.recipient_maximum_packet_size;
-    let end = put_run(out, at, kind, peer, limit, &buf[..n]);
-    framed(next, straight, end, m)
+    let staged = pick(straight, c.staged_used, end);
+    let sent = pick(straight, end, c.sent_used);
+    let mut next = c;
+    next.at = i;
+    next.params = r;
+    next.staged_used = staged;
+    next.sent_used = sent;
+    next
 }
 
-// The same, and the rest of buf as one entry.
-fn frame_rest(
+// An answer, and nothing changed.
+fn keep(t: Table, answer: Sent) -> Done
+    ensures { λ d. ⌜ d ≡ record { answer = answer; change = keptOf t } ⌝ }
+{
+    Done {
+        answer,
+        change: kept(t),
+    }
+}
+
+// All of bytes as one entry.
+fn queue_all(t: Table, queue: &mut [u8], number: ChannelId, kind: Kind, bytes: &[u8]) -> Done
+    requires { ⌜ (length (now queue) ≤ mostBytes) × Enters t (length (now queue)) (length (now bytes)) ⌝ }
+    ensures { λ d. ⌜ d ≡ record { answer = S.Framed 0; change = entered (keptOf t) (record { number = number; kind = State.stored kind; left = length (now (bytes .entry)) }) } ⌝ }
+    ensures { λ _. ⌜ now (queue .exit) ≡ write (t .«queue_used») (now (bytes .entry)) (now (queue .entry)) ⌝ }
+{
+    let at = t.queue_used;
+    copy_in(queue, at, bytes);
+    let e = entry_of(number, kind, bytes.len());
+    let c = enter(kept(t), e);
+    Done {
+        answer: Sent::Framed(0),
+        change: c,
+    }
+}
+
+// The first m bytes of buf framed behind the used part of out, the window of r, which is at place i, charged, and the rest as one entry.
+fn frame(
     t: Table,
     i: usize,
     r: Record,
@@ -250,27 +239,63 @@ fn frame_rest(
     number: ChannelId,
     kind: Kind,
     buf: &[u8],
-) -> SentData
-    requires { ⌜ (i < placeCount) × (length (now queue) ≤ mostBytes) × (length (now out) ≤ mostBytes) × Runs straight t r kind m (now buf) (length (now out)) × Enters t (length (now queue)) (length (now buf) - m) ⌝ }
-    ensures { λ s. ⌜ s ≡ record { answer = S.Framed m; table = runCounted straight t (pushed t (number .0) kind (length (drop m (now (buf .entry))))) i r kind m (now (buf .entry)) } ⌝ }
-    ensures { λ _. ⌜ now (queue .exit) ≡ write (t .«queue_used») (drop m (now (buf .entry))) (now (queue .entry)) ⌝ }
-    ensures { λ _. ⌜ now (out .exit) ≡ write (outUsed straight t) (runOf r kind m (now (buf .entry))) (now (out .entry)) ⌝ }
+) -> Done
+    requires { ⌜ (i < placeCount) × (r ≡ recordAt t i) × (length (now queue) ≤ mostBytes) × (length (now out) ≤ mostBytes) ⌝ }
+    requires { ⌜ Frames straight t r kind m (now buf) (length (now queue)) (length (now out)) ⌝ }
+    ensures { λ d. ⌜ Carries (P.Frame m) straight t i (number .0) kind (now (buf .entry)) (now (queue .entry)) (now (out .entry)) d (now (queue .exit)) (now (out .exit)) ⌝ }
 {
     let n = m as usize;
-    let rest = entry_of(number, kind, buf.len() - n);
-    let next = with_rest(t, i, charge(r, m), rest);
     let at = out_used(t, straight);
     let peer = r.recipient_channel;
     let limit = r.recipient_maximum_packet_size;
     let end = put_run(out, at, kind, peer, limit, &buf[..n]);
+    let framed = frame_to(kept(t), i, charge(r, m), straight, end);
+    if n == buf.len() {
+        return Done {
+            answer: Sent::Framed(m),
+            change: framed,
+        };
+    }
     let to = t.queue_used;
     copy_in(queue, to, &buf[n..]);
-    framed(next, straight, end, m)
+    let rest = entry_of(number, kind, buf.len() - n);
+    let all = enter(framed, rest);
+    Done {
+        answer: Sent::Framed(m),
+        change: all,
+    }
 }
 
-// One data call over a sound state. `out` is the buffer that frames go into: sent where `straight` says so, else staged.
+// Data on a record that was found. `held` says that the channel has an entry or that a rekey is on.
+fn send_on(
+    t: Table,
+    i: usize,
+    r: Record,
+    held: bool,
+    queue: &mut [u8],
+    out: &mut [u8],
+    straight: bool,
+    number: ChannelId,
+    kind: Kind,
+    buf: &[u8],
+) -> Done
+    requires { ⌜ ReadyAt straight t (length (now queue)) (length (now out)) i r ⌝ }
+    ensures { λ d. ⌜ SentOn straight t i r held (number .0) kind (now (buf .entry)) (now (queue .entry)) (now (out .entry)) d (now (queue .exit)) (now (out .exit)) ⌝ }
+{
+    let free = free_of(t, queue.len(), out.len(), straight);
+    let plan = decide(r, held, kind, buf.len(), free);
+    match plan {
+        Plan::Refuse(k) => keep(t, Sent::Refused(k)),
+        Plan::Nothing => keep(t, Sent::Framed(0)),
+        Plan::Queue => queue_all(t, queue, number, kind, buf),
+        Plan::Frame(m) => frame(t, i, r, m, queue, out, straight, number, kind, buf),
+    }
+}
+
+// One data call. `out` is the buffer that frames go into: sent where `straight` says so, else staged.
 fn send(
     t: Table,
+    seen: Seen,
     queue: &mut [u8],
     out: &mut [u8],
     straight: bool,
@@ -278,48 +303,34 @@ fn send(
     kind: Kind,
     buf: &[u8],
     rekey: bool,
-) -> SentData
-    requires { ⌜ Ready straight t (length (now queue)) (length (now out)) ⌝ }
-    ensures { λ r. ⌜
-        Sending straight rekey t (now (queue .entry)) (now (out .entry)) (C.send kind (number .0) (now (buf .entry)))
-        (record { answer = r .answer; table = r .table; queue = now (queue .exit); out = now (out .exit) })
+) -> Done
+    requires { ⌜ SeenReady straight t (length (now queue)) (length (now out)) seen ⌝ }
+    ensures { λ d. ⌜ Fits (d .change) ⌝ }
+    ensures { λ d. ⌜
+        Sending straight rekey t (now (queue .entry)) (now (out .entry)) (number .0) (C.send kind (number .0) (now (buf .entry))) seen
+        (after t d (now (queue .exit)) (now (out .exit)))
         ⌝ }
 {
-    let records = t.records;
-    let found = seat_of(t.used, records, number);
-    let Seat::At(i, r) = found else {
-        return SentData {
-            answer: Sent::Refused(Refusal::Unknown),
-            table: t,
-        };
-    };
-    let entries = t.entries;
-    let held = any_entry(t.entry_count, entries, number) | rekey;
-    let free = free_of(t, queue.len(), out.len(), straight);
-    let plan = decide(r, held, kind, buf.len(), free);
-    match plan {
-        Plan::Refuse(k) => {
-            return SentData {
-                answer: Sent::Refused(k),
-                table: t,
-            };
+    match seen {
+        Seen::Unsound => keep(t, Sent::Refused(Refusal::State)),
+        Seen::Unknown => keep(t, Sent::Refused(Refusal::Unknown)),
+        Seen::At(i, r, waits) => {
+            let held = waits | rekey;
+            send_on(t, i, r, held, queue, out, straight, number, kind, buf)
         }
-        Plan::Nothing => {
-            return SentData {
-                answer: Sent::Framed(0),
-                table: t,
-            };
-        }
-        Plan::Queue => {
-            return queue_all(t, queue, number, kind, buf);
-        }
-        Plan::Frame(m) => {
-            let n = m as usize;
-            if n == buf.len() {
-                return frame_now(t, i, r, m, out, straight, kind, buf);
-            }
-            frame_rest(t, i, r, m, queue, out, straight, number, kind, buf)
-        }
+    }
+}
+
+// The answer, and the table with the change.
+fn finish(t: Table, done: Done) -> SentData
+    requires { ⌜ Fits (done .change) ⌝ }
+    ensures { λ r. ⌜ r ≡ record { answer = done .answer; table = applied t (done .change) } ⌝ }
+{
+    let change = done.change;
+    let answer = done.answer;
+    SentData {
+        answer,
+        table: changed(t, change),
     }
 }
 
@@ -339,19 +350,15 @@ fn send_staged(
         ≡ called (lent t (now (queue .entry)) (now (staged .entry)) (now (sent .entry))) (C.put (record { form = C.staged; rekey = rekey }) (C.send kind (number .0) (now (buf .entry))))
         ⌝ }
 {
-    if sound(t, &queue[..], &staged[..], sent) {
-        send(t, queue, staged, false, number, kind, buf, rekey)
-    } else {
-        SentData {
-            answer: Sent::Refused(Refusal::State),
-            table: t,
-        }
-    }
+    let seen = see(t, &queue[..], &staged[..], sent, number);
+    let done = send(t, seen, queue, staged, false, number, kind, buf, rekey);
+    finish(t, done)
 }
 
-// The writer form: frames go into sent where nothing is staged, else into staged behind what is.
-fn send_with_writer(
+// Frames go into sent where nothing is staged, else into staged behind what is.
+fn send_routed(
     t: Table,
+    seen: Seen,
     queue: &mut [u8],
     staged: &mut [u8],
     sent: &mut [u8],
@@ -359,23 +366,18 @@ fn send_with_writer(
     kind: Kind,
     buf: &[u8],
     rekey: bool,
-) -> SentData
-    ensures { λ r. ⌜
-        outcome (Answers.sent (r .answer)) (r .table) (now (queue .exit)) (now (staged .exit)) (now (sent .exit))
+) -> Done
+    requires { ⌜ Sees t (now queue) (now staged) (now sent) (number .0) seen ⌝ }
+    ensures { λ d. ⌜ Fits (d .change) ⌝ }
+    ensures { λ d. ⌜
+        outcome (Answers.sent (d .answer)) (applied t (d .change)) (now (queue .exit)) (now (staged .exit)) (now (sent .exit))
         ≡ called (lent t (now (queue .entry)) (now (staged .entry)) (now (sent .entry))) (C.put (record { form = C.straight; rekey = rekey }) (C.send kind (number .0) (now (buf .entry))))
         ⌝ }
 {
-    if sound(t, &queue[..], &staged[..], &sent[..]) {
-        if t.staged_used == 0 {
-            return send(t, queue, sent, true, number, kind, buf, rekey);
-        }
-        send(t, queue, staged, false, number, kind, buf, rekey)
-    } else {
-        SentData {
-            answer: Sent::Refused(Refusal::State),
-            table: t,
-        }
+    if t.staged_used == 0 {
+        return send(t, seen, queue, sent, true, number, kind, buf, rekey);
     }
+    send(t, seen, queue, staged, false, number, kind, buf, rekey)
 }
 
 // Data in packets into staged; what the window leaves over is queued. The answer is the bytes framed now.
@@ -411,7 +413,19 @@ pub fn data_with_writer(
         ≡ called (lent t (now (queue .entry)) (now (staged .entry)) (now (sent .entry))) (C.put (record { form = C.straight; rekey = rekey }) (C.send K.Plain (number .0) (now (buf .entry))))
         ⌝ }
 {
-    send_with_writer(t, queue, staged, sent, number, Kind::Plain, buf, rekey)
+    let seen = see(t, &queue[..], &staged[..], &sent[..], number);
+    let done = send_routed(
+        t,
+        seen,
+        queue,
+        staged,
+        sent,
+        number,
+        Kind::Plain,
+        buf,
+        rekey,
+    );
+    finish(t, done)
 }
 
 // Extended data with its code, into staged.
@@ -458,14 +472,8 @@ pub fn extended_data_with_writer(
         ≡ called (lent t (now (queue .entry)) (now (staged .entry)) (now (sent .entry))) (C.put (record { form = C.straight; rekey = rekey }) (C.send (K.Extended ext) (number .0) (now (buf .entry))))
         ⌝ }
 {
-    send_with_writer(
-        t,
-        queue,
-        staged,
-        sent,
-        number,
-        Kind::Extended(ext),
-        buf,
-        rekey,
-    )
+    let kind = Kind::Extended(ext);
+    let seen = see(t, &queue[..], &staged[..], &sent[..], number);
+    let done = send_routed(t, seen, queue, staged, sent, number, kind, buf, rekey);
+    finish(t, done)
 }
