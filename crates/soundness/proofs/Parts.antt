@@ -81,12 +81,12 @@ module _ (t : D.Table) where
 
 -- THE WHOLE
 
--- what is left to test of a state within its limits
+-- what is left to test of a tidy table within its limits
 abbrev rest : Raw → Bool
-rest r = tidy (r .held) && (entriesSound (r .held) && (marksSound (r .held) && wholeFrames (r .held .«staged_used») (take (r .held .«staged_used») (r .staged))))
+rest r = entriesSound (r .held) && marksSound (r .held) && wholeFrames (r .held .«staged_used») (take (r .held .«staged_used») (r .staged))
 
 module _ (r : Raw) where
-  parts : isSound r ≡ limited r && rest r
+  parts : isSound r ≡ limited r && (tidy (r .held) && rest r)
   unfolding O.isSound Cl.every R.meaning T.tidy T.entriesSound T.marksSound
   parts =
       let es = entriesOf (r .held .«entry_count») (r .held .entries) (take (r .held .«queue_used») (r .queue)) in
@@ -109,20 +109,11 @@ module _ (r : Raw) where
 
   -- each way out
   pub sound-limits : limited r ≡ false → isSound r ≡ false
-  sound-limits l = parts ∙ ap (λ b. b && rest r) l
+  sound-limits l = parts ∙ ap (λ b. b && (tidy (r .held) && rest r)) l
 
   pub sound-tidy : tidy (r .held) ≡ false → isSound r ≡ false
   sound-tidy t = parts ∙ simp (t, and-false)
 
-  pub sound-entries : entriesSound (r .held) ≡ false → isSound r ≡ false
-  sound-entries e = parts ∙ simp (e, and-false)
-
-  pub sound-marks : marksSound (r .held) ≡ false → isSound r ≡ false
-  sound-marks m = parts ∙ simp (m, and-false)
-
-  pub sound-frames : wholeFrames (r .held .«staged_used») (take (r .held .«staged_used») (r .staged)) ≡ false → isSound r ≡ false
-  sound-frames w = parts ∙ simp (w, and-false)
-
-  pub sound-all : limited r ≡ true → tidy (r .held) ≡ true → entriesSound (r .held) ≡ true → marksSound (r .held) ≡ true
-      → wholeFrames (r .held .«staged_used») (take (r .held .«staged_used») (r .staged)) ≡ true → isSound r ≡ true
-  sound-all l t e m w = parts ∙ ap (λ x. x && rest r) l ∙ rw (t, e, m, w)
+  pub sound-rest : (entries marks frames b : Bool) → limited r ≡ true → tidy (r .held) ≡ true → entries ≡ entriesSound (r .held) → marks ≡ marksSound (r .held)
+      → frames ≡ wholeFrames (r .held .«staged_used») (take (r .held .«staged_used») (r .staged)) → entries && marks && frames ≡ b → isSound r ≡ b
+  sound-rest entries marks frames b l t e m w z = parts ∙ ap (λ x. x && (tidy (r .held) && rest r)) l ∙ rw (t, ← e, ← m, ← w) z

@@ -1,6 +1,6 @@
-// The test behind answer 1. Every call pays for it: a function that takes an element of the table's arrays copies the table first,
-// and one that only reads its counts or hands it on does not. So one function looks over the places and the unused entries, and the
-// functions for entries and marks copy the table only where it has some.
+// The test behind answer 1, which finds a call's channel on the way. Every call pays for it: a function that takes an element of the
+// table's arrays copies the table first, and one that only reads its counts or hands it on does not. So one function looks over the
+// places and the unused entries, and the functions for entries and marks copy the table only where it has some.
 use channel::ChannelId;
 use channel::Entry;
 use channel::Record;
@@ -126,7 +126,7 @@ fn unsound() -> Look
     }
 }
 
-// The first place that has the number n, from place i on: i itself, if its number m is that, or the first after it.
+// The first place with the number n from place i on: i itself, if its number m is that, or else the first after it.
 fn first_of(i: usize, m: ChannelId, after: usize, n: ChannelId) -> usize
     ensures { λ at. ⌜ at ≡ cond (eqb (m .0) (n .0)) i after ⌝ }
 {
@@ -136,7 +136,7 @@ fn first_of(i: usize, m: ChannelId, after: usize, n: ChannelId) -> usize
     after
 }
 
-// A place with its record; one past the last is none.
+// A place with its record, or nothing: one past the last is no place.
 fn seated(at: usize, r: Record) -> Seat
     ensures { λ s. ⌜ s ≡ cond (ltb at placeCount) (Seat.At at r) Seat.Nothing ⌝ }
 {
@@ -146,7 +146,8 @@ fn seated(at: usize, r: Record) -> Seat
     Seat::Nothing
 }
 
-// The places, from the last to the first, and the unused entries: those not used are zero, and no number is used twice.
+// The places, from the last to the first, and the unused entries: those not used are zero, and no number is used twice. The loop keeps
+// the channel's place alone: it would be slower with a record in hand.
 fn look_over(t: Table, n: ChannelId) -> Look
     requires { ⌜ Sized t ⌝ }
     ensures { λ l. ⌜ LookedOver t (n .0) (l .sound) (l .marked) (l .seat) ⌝ }
@@ -341,23 +342,19 @@ pub fn see(t: Table, queue: &[u8], staged: &[u8], sent: &[u8], n: ChannelId) -> 
         if look.sound {
             let hints = look.hints;
             let entries = entries_sound(t, hints, n);
-            if entries.sound {
-                if marks_sound(t, look.marked) {
-                    if whole_frames(staged, t.staged_used) {
-                        let seat = look.seat;
-                        return match seat {
-                            Seat::Nothing => Seen::Unknown,
-                            Seat::At(i, r) => Seen::At(i, r, entries.waits),
-                        };
-                    }
-                }
+            if entries.sound & marks_sound(t, look.marked) & whole_frames(staged, t.staged_used) {
+                let seat = look.seat;
+                return match seat {
+                    Seat::Nothing => Seen::Unknown,
+                    Seat::At(i, r) => Seen::At(i, r, entries.waits),
+                };
             }
         }
     }
     Seen::Unsound
 }
 
-// Whether a state is sound.
+// Whether a state is sound. A call asks `see`, with any number if it has none: what this is merged into copies the table once more.
 pub fn sound(t: Table, queue: &[u8], staged: &[u8], sent: &[u8]) -> bool
     ensures { λ b. ⌜ Tested t (now (queue .entry)) (now (staged .entry)) (now (sent .entry)) b ⌝ }
 {

@@ -1,5 +1,6 @@
--- Entries from k on, with the sum of those before. In the scan for an entry's record, turn 0 is the hinted place and turn j the place
--- j - 1, so the record is the one found from place j - 1 on; a hit at any place is the record, since numbers are distinct.
+-- Entries from k on, with the sum of those before and whether one of them is the channel's. In the scan for an entry's record, turn 0 is
+-- the hinted place and turn j the place j - 1, so the record is the one found from place j - 1 on; a hit at any place is the record,
+-- since numbers are distinct.
 -- Assumes nothing.
 use Prim.Native.Nat.{_+_, _-_, _*_, _≤_}
 use mathlib.Core.Path.{_≡_, refl, sym, _∙_}

@@ -1,5 +1,6 @@
--- The places are looked over downwards, so what holds of those from i on is `Seen`; a place more is one law of Places. The scan for a
--- number twice says that the number is used from i + 1 on as it is from j on. The unused entries are looked over upwards.
+-- The places are looked over downwards, so what holds of those from i on is `Seen`, and of the channel's number `First`; a place more is
+-- one law of Places for each. The scan for a number twice says that the number is used from i + 1 on as it is from j on. The unused
+-- entries are looked over upwards.
 -- Assumes nothing.
 use Prim.Native.Nat.{_+_, _-_, _/_, _^_, _≤_}
 use mathlib.Core.Path.{_≡_, refl, sym, ap, _∙_}

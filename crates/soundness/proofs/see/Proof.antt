@@ -2,20 +2,21 @@
 -- off where the function begins.
 -- Assumes nothing.
 use mathlib.Core.Path.{_≡_, sym, _∙_}
-use mathlib.Core.Bool.{true}
+use mathlib.Core.Bool.{Bool, true, false, _&&_}
 use lib.ListN.{length-map}
 use native.Mathlib.Omega.{arith}
 use borrow.Author.Needs.{needs}
+use Rattle.laws.proofs.Tests.{and-both}
 use Rattle.channel.specs.declared.Table as D
 use Rattle.channel.specs.Raw.{Raw}
 use Rattle.channel.specs.Sound.{isSound}
 use Rattle.channel.specs.Called.{Typed, lent}
 use Rattle.channel.specs.Called as C
 use Rattle.lookup.specs.Held as H
-use Rattle.soundness.specs.Tested.{Sized, limited, tidy, entriesIn, entriesSound, marksSound}
+use Rattle.soundness.specs.Tested.{Sized, limited, tidy, entriesIn}
 use Rattle.soundness.specs.Tested as T
 use Rattle.soundness.specs.Sees as S
-use Rattle.soundness.proofs.Parts.{limits-few, limits-staged, sound-limits, sound-tidy, sound-entries, sound-marks, sound-frames, sound-all, tidy-distinct}
+use Rattle.soundness.proofs.Parts.{limits-few, limits-staged, sound-limits, sound-tidy, sound-rest, tidy-distinct}
 use Rattle.soundness.proofs.see.Statement.{statement}
 use Rattle.soundness.proofs.see.Tie as tie
 
@@ -48,18 +49,13 @@ sized c =
 tidied : (c : tie.Then2) → tidy (table (c .before .before .before .before)) ≡ true
 tidied c = sym (c .before .look-over .ensures .is) ∙ c .if2 .taken
 
-named : (c : tie.Then3) → entriesSound (table (c .before .before .before .before .before .before .before)) ≡ true
-named c = sym (c .before .entries-sound .ensures .is) ∙ c .if3 .taken
-
-marked : (c : tie.Then4) → marksSound (table (c .before .before .before .before .before .before .before .before .before)) ≡ true
-marked c = sym (c .before .marks-sound .ensures) ∙ c .if4 .taken
-
-ok : (c : tie.Then5) → isSound (state (c .before .before .before .before .before .before .before .before .before .before .before)) ≡ true
-ok c =
-    let m = c .before .before in
-    let e = m .before .before in
-    let l = e .before .before .before in
-    sound-all (state (l .before .before .before .before)) (within (l .before .before)) (tidied l) (named e) (marked m) (sym (c .before .whole-frames .ensures) ∙ c .if5 .taken)
+-- the last three tests decide
+decided : (c : tie.After-whole-frames) (b : Bool) → c .before .before .before .entries-sound .result .sound && c .before .before .marks-sound .result && c .whole-frames .result ≡ b
+    → isSound (state (c .before .before .before .before .before .before .before .before .before)) ≡ b
+decided c b z =
+    let e = c .before .before .before in
+    let l = e .before .before in
+    sound-rest (state (l .before .before .before .before)) _ _ _ b (within (l .before .before)) (tidied l) (e .entries-sound .ensures .is) (c .before .before .marks-sound .ensures) (c .whole-frames .ensures) z
 
 limits-requires : tie.Need-limits-requires
 limits-requires c κs = search needs
@@ -73,12 +69,12 @@ entries-sound-requires c κs = (sized (c .before .before .before), tidy-distinct
 marks-sound-requires : tie.Need-marks-sound-requires
 unfolding T.marksSound
 marks-sound-requires c κs =
-    let l = c .before .before .before in
+    let l = c .before .before in
     (sized (l .before .before), λ e. l .before .look-over .ensures .unmarked (l .if2 .taken) e (entriesIn (table (l .before .before .before .before))))
 
 whole-frames-requires : tie.Need-whole-frames-requires
 whole-frames-requires c κs =
-    let w = c .before .before .before .before .before .before .before in
+    let w = c .before .before .before .before .before .before in
     limits-staged (state (w .before .before)) (within w)
 
 enum-told : tie.Need-enum-told
@@ -90,50 +86,40 @@ enum-known-seat c = search needs
 returns : tie.Need-returns
 unfolding S.SeenAs H.Seats
 returns c =
-    let b = c .before .before in
-    let l = b .before .before .before .before .before .before .before in
-    record { is = (ok b, rw (c .enum-told .given .1) at (l .before .look-over .ensures .seated (l .if2 .taken))); typed = typed (l .before .before .before .before) }
+    let f = c .before .before in
+    let l = f .before .before .before .before .before .before in
+    let seat = l .before .look-over .ensures .seated (l .if2 .taken) in
+    record { is = (decided (f .before) true (f .if3 .taken), rw (c .enum-told .given .1) at seat); typed = typed (l .before .before .before .before) }
 
 returns-2 : tie.Need-returns-2
 unfolding S.SeenAs H.Seats
 returns-2 c =
     let s = c .before in
-    let b = s .before .before in
-    let e = b .before .before .before .before in
-    let l = e .before .before .before in
-    let h = rw (s .seat .given .1) at (l .before .look-over .ensures .seated (l .if2 .taken)) in
+    let f = s .before .before in
+    let e = f .before .before .before .before in
+    let l = e .before .before in
+    let seat = l .before .look-over .ensures .seated (l .if2 .taken) in
+    let h = rw (s .seat .given .1) at seat in
+    let w = and-both (e .entries-sound .result .sound && f .before .before .before .marks-sound .result) _ (f .if3 .taken) in
+    let y = and-both (e .entries-sound .result .sound) _ (w .0) in
     record {
-      is = record { sound = ok b; held = h .0; record-is = h .1; waits-is = e .before .entries-sound .ensures .waits-is (e .if3 .taken) };
+      is = record { sound = decided (f .before) true (f .if3 .taken); held = h .0; record-is = h .1; waits-is = e .entries-sound .ensures .waits-is (y .0) };
       typed = typed (l .before .before .before .before);
     }
 
 returns-3 : tie.Need-returns-3
 unfolding S.SeenAs
-returns-3 c =
-    let k = c .before .before .before .before .before .before .before .before .before .before .before in
-    record { is = sound-frames (state k) (sym (c .before .whole-frames .ensures) ∙ c .if5 .left); typed = typed k }
+returns-3 c = record { is = decided (c .before) false (c .if3 .left); typed = typed (c .before .before .before .before .before .before .before .before .before .before) }
 
 returns-4 : tie.Need-returns-4
 unfolding S.SeenAs
 returns-4 c =
-    let k = c .before .before .before .before .before .before .before .before .before in
-    record { is = sound-marks (state k) (sym (c .before .marks-sound .ensures) ∙ c .if4 .left); typed = typed k }
+    let k = c .before .before .before .before in
+    record { is = sound-tidy (state k) (sym (c .before .look-over .ensures .is) ∙ c .if2 .left); typed = typed k }
 
 returns-5 : tie.Need-returns-5
 unfolding S.SeenAs
 returns-5 c =
-    let k = c .before .before .before .before .before .before .before in
-    record { is = sound-entries (state k) (sym (c .before .entries-sound .ensures .is) ∙ c .if3 .left); typed = typed k }
-
-returns-6 : tie.Need-returns-6
-unfolding S.SeenAs
-returns-6 c =
-    let k = c .before .before .before .before in
-    record { is = sound-tidy (state k) (sym (c .before .look-over .ensures .is) ∙ c .if2 .left); typed = typed k }
-
-returns-7 : tie.Need-returns-7
-unfolding S.SeenAs
-returns-7 c =
     let k = c .before .before in
     record { is = sound-limits (state k) (sym (c .before .limits .ensures) ∙ c .if1 .left); typed = typed k }
 
@@ -152,6 +138,4 @@ see-spec =
     returns-2
     returns-3
     returns-4
-    returns-5
-    returns-6
-    returns-7)
+    returns-5)
