@@ -1,21 +1,25 @@
 -- The definition's test in the parts that the code decides.
 -- Assumes nothing.
-use Prim.Native.Nat.{ℕ, _≤_}
+use Prim.Native.Nat.{ℕ, _+_, _≤_, _<_}
 use mathlib.Core.Path.{_≡_, sym, ap, _∙_}
-use mathlib.Core.Bool.{Bool, true, false, _&&_, and-assoc, and-true, and-false}
-use lib.ListN.{length, drop, take}
+use mathlib.Core.Bool.{Bool, true, false, _&&_, _||_, and-assoc, and-true, and-false, or-assoc, or-false}
+use mathlib.Core.List.{[]}
+use lib.ListN.{length, drop, take, getD}
 use lib.Dec.{leb, eqb}
 use borrow.Author.Tests.{eq-eqb, ne-eqb, eqb-true, eqb-false, leb-true}
 use Rattle.laws.proofs.Tests.{by-test, shut, and-both}
 use Rattle.laws.specs.Clauses as Cl
 use Rattle.channel.specs.declared.Table as D
-use Rattle.channel.specs.State.{mostEntries}
+use Rattle.channel.specs.declared.Entry as E
+use Rattle.channel.specs.State.{mostEntries, anyEntry}
+use Rattle.channel.specs.State as S
 use Rattle.channel.specs.Raw.{Raw, entriesOf, meaning}
 use Rattle.channel.specs.Raw as R
 use Rattle.channel.specs.Sound.{unusedZero, entriesZero, distinct, allNamed, allMarked, sumLeft, wholeFrames, isSound}
 use Rattle.channel.specs.Sound as O
-use Rattle.lookup.proofs.Walk.{any-bytes, named-bytes, marked-same}
-use Rattle.soundness.specs.Tested.{sizes, limited, placesIn, entriesIn, tidy, LookedOver, entriesSound, marksSound}
+use Rattle.lookup.proofs.Walk.{any-next, any-bytes, named-bytes, marked-same}
+use Rattle.lookup.specs.declared.Seat.{Seat}
+use Rattle.soundness.specs.Tested.{sizes, limited, placesIn, entriesIn, tidy, LookedOver, entriesSound, EntriesTold, marksSound}
 use Rattle.soundness.specs.Tested as T
 
 eqb-swap : (a b : ℕ) → eqb a b ≡ eqb b a
@@ -27,9 +31,9 @@ eqb-swap a b =
 -- THE LOOK OVER THE TABLE, at each way out
 
 module _ (t : D.Table) where
-  -- a look that failed says nothing of marks
-  pub looked-not : (b marked : Bool) → b ≡ false → tidy t ≡ false → LookedOver t b marked
-  looked-not b marked z e = record { is = z ∙ sym e; unmarked = λ y. shut b z y }
+  -- a look that failed says nothing more
+  pub looked-not : (n : ℕ) (b marked : Bool) (seat : Seat) → b ≡ false → tidy t ≡ false → LookedOver t n b marked seat
+  looked-not n b marked seat z e = record { is = z ∙ sym e; unmarked = λ y. shut b z y; seated = λ y. shut b z y }
 
   pub tidy-places : unusedZero (t .used) (t .records) ≡ false → tidy t ≡ false
   unfolding T.tidy
@@ -54,27 +58,35 @@ module _ (t : D.Table) where
       and-both (entriesZero (drop (t .«entry_count») (t .entries))) (distinct (placesIn t)) (a .1) .1
 
   -- THE ENTRIES, at each way out
-  pub entries-unnamed : allNamed (placesIn t) (entriesIn t) ≡ false → entriesSound t ≡ false
+  pub entries-unnamed : (n : ℕ) (b waits : Bool) → b ≡ false → allNamed (placesIn t) (entriesIn t) ≡ false → EntriesTold t n b waits
   unfolding T.entriesSound
-  entries-unnamed n = rw n
+  entries-unnamed n b waits z e = record { is = z ∙ rw e; waits-is = λ y. shut b z y }
 
-  pub entries-sum : (sum : ℕ) → allNamed (placesIn t) (entriesIn t) ≡ true → sumLeft (t .«entry_count») (t .entries) ≡ sum → eqb sum (t .«queue_used») ≡ entriesSound t
+  pub entries-sum : (n sum k : ℕ) (waits : Bool) → allNamed (placesIn t) (entriesIn t) ≡ true → sumLeft (t .«entry_count») (t .entries) ≡ sum
+      → anyEntry n (entriesIn t) ≡ waits || anyEntry n (drop k (entriesIn t)) → anyEntry n (drop k (entriesIn t)) ≡ false → EntriesTold t n (eqb sum (t .«queue_used»)) waits
   unfolding T.entriesSound
-  entries-sum sum n e = rw (n, e)
+  entries-sum n sum k waits a e w z = record { is = rw (a, e); waits-is = λ y. sym (w ∙ ap (λ b. waits || b) z ∙ or-false waits) }
+
+  -- an entry more, and whether it has the number
+  pub entry-more : (n k : ℕ) (z : E.Entry) (waits b : Bool) → k < t .«entry_count» → t .«entry_count» ≤ length (t .entries) → b ≡ eqb (getD (t .entries) k z .number .0) n
+      → anyEntry n (entriesIn t) ≡ waits || anyEntry n (drop k (entriesIn t)) → anyEntry n (entriesIn t) ≡ waits || b || anyEntry n (drop (k + 1) (entriesIn t))
+  entry-more n k z waits b h l e w =
+      w ∙ ap (λ x. waits || x) (any-next (t .«entry_count») (t .entries) [] k n z h l ∙ ap (λ x. x || anyEntry n (drop (k + 1) (entriesIn t))) (sym e))
+      ∙ sym (or-assoc waits b (anyEntry n (drop (k + 1) (entriesIn t))))
 
   -- no entry names anything, and their lengths sum to 0
-  pub entries-none : t .«entry_count» ≡ 0 → eqb (t .«queue_used») 0 ≡ entriesSound t
-  unfolding T.entriesSound O.allNamed O.sumLeft R.entriesOf
-  entries-none e = rw e (eqb-swap (t .«queue_used») 0)
+  pub entries-none : (n : ℕ) → t .«entry_count» ≡ 0 → EntriesTold t n (eqb (t .«queue_used») 0) false
+  unfolding T.entriesSound O.allNamed O.sumLeft R.entriesOf S.anyEntry
+  entries-none n e = record { is = rw e (eqb-swap (t .«queue_used») 0); waits-is = λ y. rw e }
 
 -- THE WHOLE
 
--- what is left to test of a state within its limits
+-- what is left to test of a tidy table within its limits
 abbrev rest : Raw → Bool
-rest r = tidy (r .held) && (entriesSound (r .held) && (marksSound (r .held) && wholeFrames (r .held .«staged_used») (take (r .held .«staged_used») (r .staged))))
+rest r = entriesSound (r .held) && marksSound (r .held) && wholeFrames (r .held .«staged_used») (take (r .held .«staged_used») (r .staged))
 
 module _ (r : Raw) where
-  parts : isSound r ≡ limited r && rest r
+  parts : isSound r ≡ limited r && (tidy (r .held) && rest r)
   unfolding O.isSound Cl.every R.meaning T.tidy T.entriesSound T.marksSound
   parts =
       let es = entriesOf (r .held .«entry_count») (r .held .entries) (take (r .held .«queue_used») (r .queue)) in
@@ -96,18 +108,12 @@ module _ (r : Raw) where
       leb-true _ _ (and-both (sizes r) _ (b .0) .1)
 
   -- each way out
-  pub sound-limits : limited r ≡ false → false ≡ isSound r
-  sound-limits l = sym (parts ∙ ap (λ b. b && rest r) l)
+  pub sound-limits : limited r ≡ false → isSound r ≡ false
+  sound-limits l = parts ∙ ap (λ b. b && (tidy (r .held) && rest r)) l
 
-  pub sound-tidy : tidy (r .held) ≡ false → false ≡ isSound r
-  sound-tidy t = sym (parts ∙ simp (t, and-false))
+  pub sound-tidy : tidy (r .held) ≡ false → isSound r ≡ false
+  sound-tidy t = parts ∙ simp (t, and-false)
 
-  pub sound-entries : entriesSound (r .held) ≡ false → false ≡ isSound r
-  sound-entries e = sym (parts ∙ simp (e, and-false))
-
-  pub sound-marks : marksSound (r .held) ≡ false → false ≡ isSound r
-  sound-marks m = sym (parts ∙ simp (m, and-false))
-
-  pub sound-frames : (b : Bool) → limited r ≡ true → tidy (r .held) ≡ true → entriesSound (r .held) ≡ true → marksSound (r .held) ≡ true
-      → b ≡ wholeFrames (r .held .«staged_used») (take (r .held .«staged_used») (r .staged)) → b ≡ isSound r
-  sound-frames b l t e m w = w ∙ sym (parts ∙ ap (λ x. x && rest r) l ∙ rw (t, e, m))
+  pub sound-rest : (entries marks frames b : Bool) → limited r ≡ true → tidy (r .held) ≡ true → entries ≡ entriesSound (r .held) → marks ≡ marksSound (r .held)
+      → frames ≡ wholeFrames (r .held .«staged_used») (take (r .held .«staged_used») (r .staged)) → entries && marks && frames ≡ b → isSound r ≡ b
+  sound-rest entries marks frames b l t e m w z = parts ∙ ap (λ x. x && (tidy (r .held) && rest r)) l ∙ rw (t, ← e, ← m, ← w) z

@@ -6,10 +6,10 @@ use mathlib.Core.Bool.{Bool, true, false, _&&_, _||_, not, cond, true≢false, a
 use mathlib.Core.List.{List, [], _∷_}
 use lib.ListN.{length, drop, getD, set}
 use lib.Seq.{getD-set-same, getD-set-other}
-use lib.Dec.{eqb}
+use lib.Dec.{eqb, ltb}
 use native.Mathlib.Omega.{arith}
 use native.Mathlib.Nat.{div-one}
-use borrow.Author.Tests.{eqb-true, eqb-false, ne-eqb, not-true}
+use borrow.Author.Tests.{eqb-true, eqb-false, ne-eqb, not-true, ltb-true, ltb-false}
 use Rattle.laws.specs.Bits.{bit}
 use Rattle.laws.proofs.Tests.{by-test, shut, and-both, or-neither, or-second}
 use Rattle.laws.proofs.Bits.{half-first}
@@ -20,7 +20,11 @@ use Rattle.channel.specs.Raw.{placesOf, zeroRecord}
 use Rattle.channel.specs.Sound.{isZero, unusedZero, distinct, allMarked}
 use Rattle.channel.specs.Sound as O
 use Rattle.channel.proofs.Lookup.{look-miss}
-use Rattle.lookup.proofs.Walk.{place-next, place-past, look-next, look-here, used-stop, used-past, unused-start, unused-go, unused-stop}
+use Rattle.lookup.specs.declared.Seat.{Seat}
+use Rattle.lookup.specs.declared.Seat.the-variants as St
+use Rattle.lookup.specs.Held.{Seats}
+use Rattle.lookup.specs.Held as H
+use Rattle.lookup.proofs.Walk.{place-next, place-past, look-next, look-here, look-past, held-at, number-held, used-stop, used-past, unused-start, unused-go, unused-stop}
 
 -- No number is used twice, a used number has a hint, and where no mark was seen every mark has an entry.
 pub record Seen (ps : List Place) (hints : List ℕ) (marked : Bool) : Type 0 where
@@ -97,6 +101,55 @@ module _ (rs : List Record) (w : ℕ) where
       ap (λ k. isUsed n (drop k (placesOf w rs))) e ∙ u
       ∙ sym (ap (λ k. isUsed n (drop k (placesOf w rs))) (f ∙ ap (λ b. cond b placeCount (p + 1)) t) ∙ used-past rs w placeCount n (omega arith)))
       (λ t. sym (ap (λ k. isUsed n (drop k (placesOf w rs))) (f ∙ ap (λ b. cond b placeCount (p + 1)) t)))
+
+-- The number n from place i on: place `at` is the first that has it, or `at` is past the last and none has it.
+pub record First (rs : List Record) (w n i at : ℕ) : Type 0 where
+  pub same : look n (drop i (placesOf w rs)) ≡ look n (drop at (placesOf w rs))
+  pub has : at < length rs → bit w at && eqb (numberOf (getD rs at zeroRecord)) n ≡ true
+
+module _ (rs : List Record) (w n : ℕ) where
+  pub first-past : (i : ℕ) → length rs ≤ i → First rs w n i i
+  first-past i h = record { same = refl; has = λ l. absurd (omega arith) }
+
+  -- place p looked at, after those from i on
+  first-miss : (p i at : ℕ) → p + 1 ≡ i → i ≤ length rs → bit w p && eqb (numberOf (getD rs p zeroRecord)) n ≡ false → First rs w n i at → First rs w n p at
+  first-miss p i at e h t f =
+      record { same = look-next rs w p n zeroRecord (omega arith) t ∙ ap (λ k. look n (drop k (placesOf w rs))) e ∙ f .same; has = f .has }
+
+  pub first-free : (p i at : ℕ) → p + 1 ≡ i → i ≤ length rs → bit w p ≡ false → First rs w n i at → First rs w n p at
+  first-free p i at e h t f = first-miss p i at e h (ap (λ b. b && eqb (numberOf (getD rs p zeroRecord)) n) t) f
+
+  pub first-used : (p i at to : ℕ) → p + 1 ≡ i → i ≤ length rs → bit w p ≡ true → to ≡ cond (eqb (numberOf (getD rs p zeroRecord)) n) p at
+      → First rs w n i at → First rs w n p to
+  first-used p i at to e h t g f =
+      let b : bit w p && eqb (numberOf (getD rs p zeroRecord)) n ≡ eqb (numberOf (getD rs p zeroRecord)) n = ap (λ b. b && eqb (numberOf (getD rs p zeroRecord)) n) t in
+      by-test (eqb (numberOf (getD rs p zeroRecord)) n)
+      (λ y. subst (First rs w n p) (sym (g ∙ ap (λ x. cond x p at) y)) (record { same = refl; has = λ l. b ∙ y }))
+      (λ y. subst (First rs w n p) (sym (g ∙ ap (λ x. cond x p at) y)) (first-miss p i at e h (b ∙ y) f))
+
+  -- and once all are, that is the number's seat
+  pub first-seats : (i at : ℕ) (r : Record) (seat : Seat) → length rs ≡ placeCount → i ≤ 0 → r ≡ getD rs (at % placeCount) zeroRecord
+      → seat ≡ cond (ltb at placeCount) (St.At at r) St.Nothing → First rs w n i at → Seats w rs n seat
+  unfolding H.Seats
+  first-seats i at r seat l z g e f =
+      let y : i ≡ 0 = omega arith in
+      let same = ap (λ k. look n (drop k (placesOf w rs))) (sym y) ∙ f .same in
+      by-test (ltb at placeCount)
+      (λ t. let h : at < placeCount = ltb-true at placeCount t in
+      let b = f .has (omega arith) in
+      let m : at % placeCount ≡ at = omega arith in
+      subst (Seats w rs n) (sym (e ∙ ap (λ x. cond x (St.At at r) St.Nothing) t)) (
+        record {
+          place = h;
+          used = and-both (bit w at) _ b .0;
+          at = held-at rs w at n zeroRecord (omega arith) b;
+          number = number-held w at n (getD rs at zeroRecord) b;
+          here = same ∙ look-here rs w at n zeroRecord (omega arith) b;
+        },
+        g ∙ ap (λ k. getD rs k zeroRecord) m,
+      ))
+      (λ t. let h : placeCount ≤ at = ltb-false at placeCount t in
+      subst (Seats w rs n) (sym (e ∙ ap (λ x. cond x (St.At at r) St.Nothing) t)) (same ∙ look-past rs w at n (omega arith)))
 
 -- what fails from a place on fails of the whole
 pub distinct-back : (ps : List Place) (i : ℕ) → distinct (drop i ps) ≡ false → distinct ps ≡ false

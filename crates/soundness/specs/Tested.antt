@@ -7,10 +7,12 @@ use mathlib.Core.List.{List, []}
 use lib.ListN.{length, drop}
 use lib.Dec.{leb, eqb}
 use Rattle.channel.specs.declared.Table as D
-use Rattle.channel.specs.State.{placeCount, mostEntries, mostBytes, Place, Entry}
+use Rattle.channel.specs.State.{placeCount, mostEntries, mostBytes, Place, Entry, anyEntry}
 use Rattle.channel.specs.Raw.{Raw, placesOf, entriesOf}
 use Rattle.channel.specs.Sound.{unusedZero, entriesZero, distinct, allNamed, sumLeft, allMarked, isSound}
 use Rattle.channel.specs.Called.{Typed, lent}
+use Rattle.lookup.specs.declared.Seat.{Seat}
+use Rattle.lookup.specs.Held.{Seats}
 
 -- the test's answer, and what the types say of the state
 pub record Tested (t : D.Table) (queue staged sent : List ℕ) (b : Bool) : Type 0 where
@@ -41,13 +43,19 @@ entriesIn t = entriesOf (t .«entry_count») (t .entries) []
 unfoldable pub tidy : D.Table → Bool
 tidy t = unusedZero (t .used) (t .records) && (entriesZero (drop (t .«entry_count») (t .entries)) && distinct (placesIn t))
 
--- and that without a mark every mark has an entry
-pub record LookedOver (t : D.Table) (b marked : Bool) : Type 0 where
+-- and, if it is so, that without a mark every mark has an entry, and where the record with the number n stands
+pub record LookedOver (t : D.Table) (n : ℕ) (b marked : Bool) (seat : Seat) : Type 0 where
   pub is : b ≡ tidy t
   pub unmarked : b ≡ true → marked ≡ false → (es : List Entry) → allMarked es (placesIn t) ≡ true
+  pub seated : b ≡ true → Seats (t .used) (t .records) n seat
 
 unfoldable pub entriesSound : D.Table → Bool
 entriesSound t = allNamed (placesIn t) (entriesIn t) && eqb (sumLeft (t .«entry_count») (t .entries)) (t .«queue_used»)
+
+-- and, if they are sound, whether one has the number n
+pub record EntriesTold (t : D.Table) (n : ℕ) (b waits : Bool) : Type 0 where
+  pub is : b ≡ entriesSound t
+  pub waits-is : b ≡ true → waits ≡ anyEntry n (entriesIn t)
 
 unfoldable pub marksSound : D.Table → Bool
 marksSound t = allMarked (entriesIn t) (placesIn t)

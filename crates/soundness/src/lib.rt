@@ -1,26 +1,24 @@
-// The test behind answer 1. Every call pays for it: a function that takes an element of the table's arrays copies the table first,
-// and one that only reads its counts or hands it on does not. So one function looks over the places and the unused entries, and the
-// functions for entries and marks copy the table only where it has some.
+// The test behind answer 1, which finds a call's channel on the way. Every call pays for it: a function that takes an element of the
+// table's arrays copies the table first, and one that only reads its counts or hands it on does not. So one function looks over the
+// places and the unused entries, and the functions for entries and marks copy the table only where it has some.
 use channel::ChannelId;
 use channel::Entry;
 use channel::Record;
 use channel::Table;
 use frames::frame_at;
 use lookup::Seat;
-use lookup::any_entry;
 use lookup::entry_has;
 use lookup::place_has;
-use lookup::seat_of;
 ghost use mathlib.Core.Path.{_≡_};
 ghost use mathlib.Core.Bool.{true, false, _&&_, cond};
 ghost use Prim.Native.Nat.{_+_, _≤_, _<_, _%_};
-ghost use lib.Dec.{eqb};
+ghost use lib.Dec.{eqb, ltb};
 ghost use lib.ListN.{length, take};
 ghost use Rattle.laws.specs.Bits.{bit};
 ghost use Rattle.channel.specs.State.{placeCount, numbersInAll};
 ghost use Rattle.channel.specs.Sound.{isZero, isZeroEntry, isMarked, distinct, wholeFrames};
 ghost use Rattle.channel.specs.Called.{lent};
-ghost use Rattle.soundness.specs.Tested.{Tested, Sized, placesIn, limited, LookedOver, entriesSound, marksSound};
+ghost use Rattle.soundness.specs.Tested.{Tested, Sized, placesIn, limited, LookedOver, EntriesTold, marksSound};
 ghost use Rattle.soundness.specs.Sees.{Sees};
 
 // Every field is zero.
@@ -106,11 +104,12 @@ fn tried(h: u8, j: usize) -> usize
     j - 1
 }
 
-// What a look over a table leaves: whether that much of it is sound, whether a used place has a mark, and the hints, which are tested
-// before they are believed.
+// What a look over a table leaves: whether that much of it is sound, whether a used place has a mark, where a number's record stands, and
+// the hints, which are tested before they are believed.
 struct Look {
     sound: bool,
     marked: bool,
+    seat: Seat,
     hints: [u8; 64],
 }
 
@@ -122,34 +121,58 @@ fn unsound() -> Look
     Look {
         sound: false,
         marked: false,
+        seat: Seat::Nothing,
         hints,
     }
 }
 
-// The places, from the last to the first, and the unused entries: those not used are zero, and no number is used twice.
-fn look_over(t: Table) -> Look
+// The first place with the number n from place i on: i itself, if its number m is that, or else the first after it.
+fn first_of(i: usize, m: ChannelId, after: usize, n: ChannelId) -> usize
+    ensures { λ at. ⌜ at ≡ cond (eqb (m .0) (n .0)) i after ⌝ }
+{
+    if m.0 == n.0 {
+        return i;
+    }
+    after
+}
+
+// A place with its record, or nothing: one past the last is no place.
+fn seated(at: usize, r: Record) -> Seat
+    ensures { λ s. ⌜ s ≡ cond (ltb at placeCount) (Seat.At at r) Seat.Nothing ⌝ }
+{
+    if at < 32 {
+        return Seat::At(at, r);
+    }
+    Seat::Nothing
+}
+
+// The places, from the last to the first, and the unused entries: those not used are zero, and no number is used twice. The loop keeps
+// the channel's place alone: it would be slower with a record in hand.
+fn look_over(t: Table, n: ChannelId) -> Look
     requires { ⌜ Sized t ⌝ }
-    ensures { λ l. ⌜ LookedOver t (l .sound) (l .marked) ⌝ }
+    ensures { λ l. ⌜ LookedOver t (n .0) (l .sound) (l .marked) (l .seat) ⌝ }
 {
     let used = t.used;
     let mut hints = [0u8; 64];
     let mut marked = false;
+    let mut at: usize = 32;
     let mut i: usize = 32;
     while i > 0 {
         i -= 1;
         let r = t.records[i];
         if place_used(used, i) {
-            let n = r.sender_channel;
-            let s = slot(n);
+            let m = r.sender_channel;
+            let s = slot(m);
             let mut j = scan_from(hints[s], i);
             while j < 32 {
-                if place_has(used, j, t.records[j], n) {
+                if place_has(used, j, t.records[j], m) {
                     return unsound();
                 }
                 j += 1;
             }
             hints[s] = hint(i);
             marked = marked | r.pending_eof | r.pending_close;
+            at = first_of(i, m, at, n);
         } else if !is_zero(r) {
             return unsound();
         }
@@ -159,56 +182,82 @@ fn look_over(t: Table) -> Look
             return unsound();
         }
     }
+    let seat = seated(at, t.records[at % 32]);
     Look {
         sound: true,
         marked,
+        seat,
         hints,
+    }
+}
+
+// What the entries tell: whether they are sound and, if they are, whether one is the channel's.
+struct Entries {
+    sound: bool,
+    waits: bool,
+}
+
+// Entries that failed.
+fn unnamed() -> Entries
+    ensures { λ e. ⌜ e .sound ≡ false ⌝ }
+{
+    Entries {
+        sound: false,
+        waits: false,
     }
 }
 
 // The used entries name confirmed records, and their lengths sum to the queue's used count. Used numbers are distinct, so the first
 // place that has the number is the only one.
-fn entries_named(t: Table, hints: [u8; 64]) -> bool
+fn entries_named(t: Table, hints: [u8; 64], n: ChannelId) -> Entries
     requires { ⌜ Sized t ⌝ }
     requires { ⌜ distinct (placesIn t) ≡ true ⌝ }
-    ensures { λ b. ⌜ b ≡ entriesSound t ⌝ }
+    ensures { λ e. ⌜ EntriesTold t (n .0) (e .sound) (e .waits) ⌝ }
 {
     let used = t.used;
     let count = t.entry_count;
     let mut sum: usize = 0;
+    let mut waits = false;
     let mut k: usize = 0;
     'next: while k < count {
         let e = t.entries[k];
-        let n = e.number;
-        let s = slot(n);
+        let m = e.number;
+        let s = slot(m);
         let h = hints[s];
         sum = sum + left_of(e);
+        waits = waits | entry_has(e, n);
         k += 1;
         for j in 0..33usize {
             let i = tried(h, j);
             let r = t.records[i];
-            if place_has(used, i, r, n) {
+            if place_has(used, i, r, m) {
                 if r.confirmed {
                     continue 'next;
                 }
-                return false;
+                return unnamed();
             }
         }
-        return false;
+        return unnamed();
     }
-    sum == t.queue_used
+    Entries {
+        sound: sum == t.queue_used,
+        waits,
+    }
 }
 
 // The same, with nothing to look at where there is no entry.
-fn entries_sound(t: Table, hints: [u8; 64]) -> bool
+fn entries_sound(t: Table, hints: [u8; 64], n: ChannelId) -> Entries
     requires { ⌜ Sized t ⌝ }
     requires { ⌜ distinct (placesIn t) ≡ true ⌝ }
-    ensures { λ b. ⌜ b ≡ entriesSound t ⌝ }
+    ensures { λ e. ⌜ EntriesTold t (n .0) (e .sound) (e .waits) ⌝ }
 {
     if t.entry_count == 0 {
-        return t.queue_used == 0;
+        return Entries {
+            sound: t.queue_used == 0,
+            waits: false,
+        };
     }
-    entries_named(t, hints)
+    entries_named(t, hints, n)
 }
 
 // Every marked channel has an entry.
@@ -276,24 +325,6 @@ fn limits(t: Table, queue: &[u8], staged: &[u8], sent: &[u8]) -> bool
         & (t.entry_count <= 64)
 }
 
-// Whether a state is sound.
-pub fn sound(t: Table, queue: &[u8], staged: &[u8], sent: &[u8]) -> bool
-    ensures { λ b. ⌜ Tested t (now (queue .entry)) (now (staged .entry)) (now (sent .entry)) b ⌝ }
-{
-    if limits(t, queue, staged, sent) {
-        let look = look_over(t);
-        if look.sound {
-            let hints = look.hints;
-            if entries_sound(t, hints) {
-                if marks_sound(t, look.marked) {
-                    return whole_frames(staged, t.staged_used);
-                }
-            }
-        }
-    }
-    false
-}
-
 // What a call sees of its channel: that the state is not sound, that no record has the number, or the record's place, the record, and
 // whether the channel has an entry.
 pub enum Seen {
@@ -306,18 +337,31 @@ pub enum Seen {
 pub fn see(t: Table, queue: &[u8], staged: &[u8], sent: &[u8], n: ChannelId) -> Seen
     ensures { λ s. ⌜ Sees t (now (queue .entry)) (now (staged .entry)) (now (sent .entry)) (n .0) s ⌝ }
 {
-    if sound(t, queue, staged, sent) {
-        let records = t.records;
-        let found = seat_of(t.used, records, n);
-        match found {
-            Seat::Nothing => Seen::Unknown,
-            Seat::At(i, r) => {
-                let entries = t.entries;
-                let waits = any_entry(t.entry_count, entries, n);
-                Seen::At(i, r, waits)
+    if limits(t, queue, staged, sent) {
+        let look = look_over(t, n);
+        if look.sound {
+            let hints = look.hints;
+            let entries = entries_sound(t, hints, n);
+            if entries.sound & marks_sound(t, look.marked) & whole_frames(staged, t.staged_used) {
+                let seat = look.seat;
+                return match seat {
+                    Seat::Nothing => Seen::Unknown,
+                    Seat::At(i, r) => Seen::At(i, r, entries.waits),
+                };
             }
         }
-    } else {
-        Seen::Unsound
+    }
+    Seen::Unsound
+}
+
+// Whether a state is sound. A call asks `see`, with any number if it has none: what this is merged into copies the table once more.
+pub fn sound(t: Table, queue: &[u8], staged: &[u8], sent: &[u8]) -> bool
+    ensures { λ b. ⌜ Tested t (now (queue .entry)) (now (staged .entry)) (now (sent .entry)) b ⌝ }
+{
+    let seen = see(t, queue, staged, sent, ChannelId(0));
+    match seen {
+        Seen::Unsound => false,
+        Seen::Unknown => true,
+        Seen::At(i, r, waits) => true,
     }
 }

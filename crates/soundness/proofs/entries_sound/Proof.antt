@@ -6,7 +6,7 @@ use Rattle.soundness.proofs.entries_sound.Statement.{statement}
 use Rattle.soundness.proofs.entries_sound.Tie as tie
 
 returns : tie.Need-returns
-returns c = entries-none (c .before .before .before .args .t) (c .before .if1 .taken)
+returns c = entries-none (c .before .before .before .args .t) _ (c .before .if1 .taken)
 
 entries-named-requires : tie.Need-entries-named-requires
 entries-named-requires c κs = search needs
