@@ -30,3 +30,9 @@ SeenAs t queue staged sent n (At i r waits) = SeenAt t queue staged sent n i r w
 pub record Sees (t : D.Table) (queue staged sent : List ℕ) (n : ℕ) (s : Seen) : Type 0 where
   pub is : SeenAs t queue staged sent n s
   pub typed : Typed (lent t queue staged sent)
+
+-- the state that was seen is sound
+abbrev pub soundly : Seen → Bool
+soundly Unsound = false
+soundly Unknown = true
+soundly (At i r waits) = true

@@ -19,7 +19,7 @@ ghost use Rattle.channel.specs.State.{placeCount, numbersInAll};
 ghost use Rattle.channel.specs.Sound.{isZero, isZeroEntry, isMarked, distinct, wholeFrames};
 ghost use Rattle.channel.specs.Called.{lent};
 ghost use Rattle.soundness.specs.Tested.{Tested, Sized, placesIn, limited, LookedOver, EntriesTold, marksSound};
-ghost use Rattle.soundness.specs.Sees.{Sees};
+ghost use Rattle.soundness.specs.Sees.{Sees, soundly};
 
 // Every field is zero.
 fn is_zero(r: Record) -> bool
@@ -354,14 +354,22 @@ pub fn see(t: Table, queue: &[u8], staged: &[u8], sent: &[u8], n: ChannelId) -> 
     Seen::Unsound
 }
 
-// Whether a state is sound. A call asks `see`, with any number if it has none: what this is merged into copies the table once more.
+// Whether what was seen is of a sound state. A call without a number asks `see` for any and then this: a function that took the table
+// and handed it on to `see` would copy it once more.
+pub fn is_sound(s: Seen) -> bool
+    ensures { λ b. ⌜ b ≡ soundly s ⌝ }
+{
+    match s {
+        Seen::Unsound => false,
+        Seen::Unknown => true,
+        Seen::At(_, _, _) => true,
+    }
+}
+
+// Whether a state is sound.
 pub fn sound(t: Table, queue: &[u8], staged: &[u8], sent: &[u8]) -> bool
     ensures { λ b. ⌜ Tested t (now (queue .entry)) (now (staged .entry)) (now (sent .entry)) b ⌝ }
 {
     let seen = see(t, queue, staged, sent, ChannelId(0));
-    match seen {
-        Seen::Unsound => false,
-        Seen::Unknown => true,
-        Seen::At(i, r, waits) => true,
-    }
+    is_sound(seen)
 }

@@ -1,6 +1,7 @@
 // Staged flush (document 01): whole frames move from the front of staged to sent; and drain, after which sent is empty.
 
 use channel::Acted;
+use channel::ChannelId;
 use channel::Moved;
 use channel::Refusal;
 use channel::Table;
@@ -8,7 +9,8 @@ use frames::front_run;
 use octets::close_gap;
 use octets::copy_in;
 use octets::put_zeros;
-use soundness::sound;
+use soundness::is_sound;
+use soundness::see;
 ghost use mathlib.Core.Path.{_≡_};
 ghost use Prim.Native.Nat.{_+_, _≤_};
 ghost use lib.ListN.{length, take};
@@ -63,7 +65,8 @@ pub fn flush(
         ≡ called (lent t (now (queue .entry)) (now (staged .entry)) (now (sent .entry))) (flushStaged rekey)
         ⌝ }
 {
-    if sound(t, queue, &staged[..], &sent[..]) {
+    let seen = see(t, queue, &staged[..], &sent[..], ChannelId(0));
+    if is_sound(seen) {
         if rekey {
             return StagedFlushed {
                 answer: Moved::Held,
@@ -97,7 +100,8 @@ pub fn drain(t: Table, queue: &[u8], staged: &[u8], sent: &mut [u8]) -> Drained
         ≡ called (lent t (now (queue .entry)) (now (staged .entry)) (now (sent .entry))) drain
         ⌝ }
 {
-    if sound(t, queue, staged, &sent[..]) {
+    let seen = see(t, queue, staged, &sent[..], ChannelId(0));
+    if is_sound(seen) {
         let n = t.sent_used;
         put_zeros(sent, 0, n);
         let next = with_counts(t, t.staged_used, 0);

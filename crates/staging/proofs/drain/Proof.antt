@@ -11,19 +11,27 @@ use Rattle.channel.specs.Sound.{isSound}
 use Rattle.channel.specs.Called.{lent, outcome}
 use Rattle.lookup.proofs.Limits.{limits}
 use Rattle.lookup.proofs.Branch.{unsound}
+use Rattle.soundness.specs.Tested.{Tested}
+use Rattle.soundness.proofs.Told.{tested}
 use Rattle.staging.proofs.Cases.{drained-is}
 use Rattle.staging.proofs.drain.Statement.{statement}
 use Rattle.staging.proofs.drain.Tie as tie
 
 -- the state that was tested, and that it is sound
-abbrev state : tie.After-sound → Raw
-state c = let a = c .before .before .before .before .before .args in lent (a .t) (a .queue .now) (a .staged .now) (a .sent .now)
+abbrev state : tie.After-is-sound → Raw
+state c = let a = c .before .before .before .before .before .before .args in lent (a .t) (a .queue .now) (a .staged .now) (a .sent .now)
+
+test : (c : tie.After-is-sound) → Tested (state c .held) (state c .queue) (state c .staged) (state c .sent) (c .is-sound .result)
+test c = tested (c .before .see .ensures) (c .is-sound .ensures)
 
 ok : (c : tie.Then1) → isSound (state (c .before)) ≡ true
-ok c = sym (c .before .sound .ensures .is) ∙ c .if1 .taken
+ok c = sym (test (c .before) .is) ∙ c .if1 .taken
 
-sound-requires : tie.Need-sound-requires
-sound-requires c κs = search needs
+see-requires : tie.Need-see-requires
+see-requires c κs = search needs
+
+is-sound-requires : tie.Need-is-sound-requires
+is-sound-requires c κs = search needs
 
 put-zeros-requires : tie.Need-put-zeros-requires
 put-zeros-requires c κs = omega (arith, limits (state (c .before .before)) (ok (c .before)) .sentUsed)
@@ -40,20 +48,21 @@ returns c =
     let b = c .before .before .before .before .before in
     let r = state (b .before) in
     ap₂ (λ x y. outcome (gave done) x (r .queue) (r .staged) y) (c .with-counts .ensures) (c .before .before .before .put-zeros .ensures)
-    ∙ sym (drained-is r (b .before .sound .ensures .typed) (ok b))
+    ∙ sym (drained-is r (test (b .before) .typed) (ok b))
 
 same-length-2 : tie.Need-same-length-2
 same-length-2 c = search needs
 
 returns-2 : tie.Need-returns-2
 unfolding A.acted A.refusal A.refusalNumber
-returns-2 c = sym (unsound (state (c .before)) drain (sym (c .before .sound .ensures .is) ∙ c .if1 .left))
+returns-2 c = sym (unsound (state (c .before)) drain (sym (test (c .before) .is) ∙ c .if1 .left))
 
 pub drain-spec : {M : Type 1} → statement M
 drain-spec =
     tie.close
     (tie.spec
-    sound-requires
+    see-requires
+    is-sound-requires
     put-zeros-requires
     with-counts-requires
     same-length

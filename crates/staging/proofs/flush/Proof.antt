@@ -13,22 +13,30 @@ use Rattle.channel.proofs.Clauses.{clauses}
 use Rattle.lookup.specs.Limits.{Limits}
 use Rattle.lookup.proofs.Limits.{limits}
 use Rattle.lookup.proofs.Branch.{unsound}
+use Rattle.soundness.specs.Tested.{Tested}
+use Rattle.soundness.proofs.Told.{tested}
 use Rattle.staging.proofs.Cases.{held-is, moved-is}
 use Rattle.staging.proofs.flush.Statement.{statement}
 use Rattle.staging.proofs.flush.Tie as tie
 
 -- the state that was tested, that it is sound, and its bounds
-abbrev state : tie.After-sound → Raw
-state c = let a = c .before .before .before .before .before .before .args in lent (a .t) (a .queue .now) (a .staged .now) (a .sent .now)
+abbrev state : tie.After-is-sound → Raw
+state c = let a = c .before .before .before .before .before .before .before .args in lent (a .t) (a .queue .now) (a .staged .now) (a .sent .now)
+
+test : (c : tie.After-is-sound) → Tested (state c .held) (state c .queue) (state c .staged) (state c .sent) (c .is-sound .result)
+test c = tested (c .before .see .ensures) (c .is-sound .ensures)
 
 ok : (c : tie.Then1) → isSound (state (c .before)) ≡ true
-ok c = sym (c .before .sound .ensures .is) ∙ c .if1 .taken
+ok c = sym (test (c .before) .is) ∙ c .if1 .taken
 
 bounds : (c : tie.Then1) → Limits (state (c .before))
 bounds c = limits (state (c .before)) (ok c)
 
-sound-requires : tie.Need-sound-requires
-sound-requires c κs = search needs
+see-requires : tie.Need-see-requires
+see-requires c κs = search needs
+
+is-sound-requires : tie.Need-is-sound-requires
+is-sound-requires c κs = search needs
 
 same-length : tie.Need-same-length
 same-length c = search needs
@@ -40,7 +48,7 @@ returns : tie.Need-returns
 unfolding A.moved
 returns c =
     let b = c .before in
-    sym (ap (λ x. called (state (b .before)) (flushStaged x)) (c .if2 .taken) ∙ held-is (state (b .before)) (b .before .sound .ensures .typed) (ok b))
+    sym (ap (λ x. called (state (b .before)) (flushStaged x)) (c .if2 .taken) ∙ held-is (state (b .before)) (test (b .before) .typed) (ok b))
 
 sub-room : tie.Need-sub-room
 sub-room c = omega (arith, bounds (c .before))
@@ -79,7 +87,7 @@ returns-2 c =
     let r = state (b .before) in
     let e = f .front-run .ensures in
     (λ i. outcome (moved (f .front-run .result .frames) (f .front-run .result .bytes)) (c .with-counts .ensures i) (r .queue) (m .move-out .ensures .0 i) (m .move-out .ensures .1 i))
-    ∙ sym (ap (λ x. called r (flushStaged x)) (f .before .before .if2 .left) ∙ moved-is r (b .before .sound .ensures .typed) (ok b) _ _ (e .0 .0) (e .0 .1) (e .1 .1))
+    ∙ sym (ap (λ x. called r (flushStaged x)) (f .before .before .if2 .left) ∙ moved-is r (test (b .before) .typed) (ok b) _ _ (e .0 .0) (e .0 .1) (e .1 .1))
 
 same-length-5 : tie.Need-same-length-5
 same-length-5 c = search needs
@@ -89,13 +97,14 @@ same-length-6 c = search needs
 
 returns-3 : tie.Need-returns-3
 unfolding A.moved A.refusal A.refusalNumber
-returns-3 c = sym (unsound (state (c .before)) (flushStaged _) (sym (c .before .sound .ensures .is) ∙ c .if1 .left))
+returns-3 c = sym (unsound (state (c .before)) (flushStaged _) (sym (test (c .before) .is) ∙ c .if1 .left))
 
 pub flush-spec : {M : Type 1} → statement M
 flush-spec =
     tie.close
     (tie.spec
-    sound-requires
+    see-requires
+    is-sound-requires
     same-length
     same-length-2
     returns
