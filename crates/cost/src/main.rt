@@ -1,4 +1,4 @@
-// What the test behind answer 1 costs, beside one copy of the table: `soundness::sound` over tables that are fuller and fuller, and a copy
+// What the test behind answer 1 costs, beside one copy of the table: `soundness::see` over tables that are fuller and fuller, and a copy
 // of the same ones, in turn. Every count that is written is worked out by what is timed, so nothing of it can be left out. Times are
 // written where the input begins with a `t`; without it each case is run a few times and only the counts are written.
 use channel::ChannelId;
@@ -70,7 +70,8 @@ fn ask(start: Table, rounds: u32) -> u64 {
     let mut yes: u64 = 0;
     for i in 0..rounds {
         t.last = i;
-        yes = std::num::wrapping_add_u64(yes, counted(soundness::sound(t, &lent, &lent, &lent)));
+        let seen = soundness::see(t, &lent, &lent, &lent, ChannelId(0));
+        yes = std::num::wrapping_add_u64(yes, counted(soundness::is_sound(seen)));
     }
     yes
 }

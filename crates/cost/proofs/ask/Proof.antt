@@ -16,17 +16,20 @@ abbrev μ-loop : tie.MeasureT-loop
 loop-holds : tie.Need-loop-holds Inv-loop μ-loop
 loop-holds c = search needs
 
-slice-aggregate-sound : tie.Need-slice-aggregate-sound Inv-loop μ-loop
-slice-aggregate-sound c = search needs
+slice-aggregate-see : tie.Need-slice-aggregate-see Inv-loop μ-loop
+slice-aggregate-see c = search needs
 
-slice-aggregate-sound-2 : tie.Need-slice-aggregate-sound-2 Inv-loop μ-loop
-slice-aggregate-sound-2 c = search needs
+slice-aggregate-see-2 : tie.Need-slice-aggregate-see-2 Inv-loop μ-loop
+slice-aggregate-see-2 c = search needs
 
-slice-aggregate-sound-3 : tie.Need-slice-aggregate-sound-3 Inv-loop μ-loop
-slice-aggregate-sound-3 c = search needs
+slice-aggregate-see-3 : tie.Need-slice-aggregate-see-3 Inv-loop μ-loop
+slice-aggregate-see-3 c = search needs
 
-sound-requires : tie.Need-sound-requires Inv-loop μ-loop
-sound-requires c κs = search needs
+see-requires : tie.Need-see-requires Inv-loop μ-loop
+see-requires c κs = search needs
+
+is-sound-requires : tie.Need-is-sound-requires Inv-loop μ-loop
+is-sound-requires c κs = search needs
 
 counted-requires : tie.Need-counted-requires Inv-loop μ-loop
 counted-requires c κs = search needs
@@ -53,10 +56,11 @@ ask-spec =
     Inv-loop
     μ-loop
     loop-holds
-    slice-aggregate-sound
-    slice-aggregate-sound-2
-    slice-aggregate-sound-3
-    sound-requires
+    slice-aggregate-see
+    slice-aggregate-see-2
+    slice-aggregate-see-3
+    see-requires
+    is-sound-requires
     counted-requires
     wrapping-add-u64-requires
     add-i
