@@ -1,5 +1,6 @@
-// The calls for a program in another language, each under its plain name with the prefix `oxenhush_`. A table goes in by value and comes back
-// by value, as C passes a struct. Every value of its numbers is taken: where the state is not sound the answer is 1, and nothing changes.
+// The calls for a program in another language, each under its plain name with the prefix `oxenhush_`. A table goes in by value, as C passes
+// a struct, and comes back by value, save from a query, which changes nothing and gives its answer alone. Every value of its numbers is
+// taken: where the state is not sound the answer is 1, and nothing changes.
 //
 // What a caller must keep, and nothing more is relied on:
 // - a slice is a pointer and a length: the pointer is not null, also for length 0, and that many bytes are there during the call;
