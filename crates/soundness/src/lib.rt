@@ -354,7 +354,7 @@ pub fn see(t: Table, queue: &[u8], staged: &[u8], sent: &[u8], n: ChannelId) -> 
     Seen::Unsound
 }
 
-// Whether a state is sound. A call asks `see`, with any number if it has none: what this is merged into copies the table once more.
+// Whether a state is sound. Merged into a call, this can cost it a copy of the table that `see`, asked for any number, does not.
 pub fn sound(t: Table, queue: &[u8], staged: &[u8], sent: &[u8]) -> bool
     ensures { λ b. ⌜ Tested t (now (queue .entry)) (now (staged .entry)) (now (sent .entry)) b ⌝ }
 {
