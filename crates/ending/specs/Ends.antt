@@ -1,6 +1,6 @@
 -- What EOF and CLOSE differ in, and what their common decision says.
 -- Assumes nothing.
-use Prim.Native.Nat.{ℕ, _+_, _≤_, _<_}
+use Prim.Native.Nat.{ℕ, _+_, _-_, _^_, _≤_, _<_}
 use mathlib.Core.Path.{_≡_}
 use mathlib.Core.Bool.{Bool, true, false}
 use mathlib.Core.List.{List}
@@ -9,11 +9,17 @@ use Rattle.channel.specs.declared.Refusal.{Refusal}
 use Rattle.channel.specs.declared.Refusal.the-variants as Refusal
 use Rattle.channel.specs.declared.Table as D
 use Rattle.channel.specs.Wire.{eofMessage, closeMessage}
-use Rattle.channel.specs.Call.{Act, eof, close}
+use Rattle.channel.specs.Call.{Act, act, eof, close}
 use Rattle.channel.specs.Change.{withMarks}
-use Rattle.lookup.specs.Update.{placeFreed}
+use Rattle.channel.specs.Raw.{zeroRecord}
+use Rattle.channel.specs.Called.{lent, outcome, called}
+use Rattle.channel.specs.Answers.{acted}
+use Rattle.lookup.specs.Changed.{Fits, applied}
+use Rattle.soundness.specs.declared.Seen.{Seen}
+use Rattle.soundness.specs.Sees.{Sees}
 use Rattle.ending.specs.declared.Ending.{Ending}
 use Rattle.ending.specs.declared.Ending.the-variants.{Eof, Close}
+use Rattle.ending.specs.declared.Effect.{Effect}
 use Rattle.ending.specs.declared.Plan.{Plan}
 use Rattle.ending.specs.declared.Plan.the-variants.{Refuse, Mark, Send}
 
@@ -32,10 +38,14 @@ abbrev pub marks : Ending → Record → Record
 marks Eof c = withMarks c true (c .«pending_close»)
 marks Close c = withMarks c (c .«pending_eof») true
 
--- the table that the message of the record at place i leaves
-abbrev pub leaves : Ending → D.Table → ℕ → D.Table
-leaves Eof t i = t
-leaves Close t i = placeFreed t i
+-- the used word, and what stands at place i, once the message of the record there is staged
+abbrev pub usedAfter : Ending → ℕ → ℕ → ℕ
+usedAfter Eof used i = used
+usedAfter Close used i = used - 2 ^ i
+
+abbrev pub recordAfter : Ending → Record → Record
+recordAfter Eof c = c
+recordAfter Close c = zeroRecord
 
 -- why a record's call is refused: by whether it is confirmed, whether it has an entry, and staged's used count and size
 pub data Stops (confirmed waits : Bool) (used size : ℕ) : Refusal → Type 0 where
@@ -47,3 +57,16 @@ abbrev pub Planned : Bool → Bool → ℕ → ℕ → Plan → Type 0
 Planned confirmed waits used size (Refuse k) = Stops confirmed waits used size k
 Planned confirmed waits used size Mark = (confirmed ≡ true) × (waits ≡ true)
 Planned confirmed waits used size Send = (confirmed ≡ true) × (waits ≡ false) × (used + 9 ≤ size)
+
+-- some state with this table and this staged was seen so
+pub record SeenIn (t : D.Table) (staged : List ℕ) (s : Seen) : Type 0 where
+  pub queue : List ℕ
+  pub sent : List ℕ
+  pub number : ℕ
+  pub sees : Sees t queue staged sent number s
+
+-- the answer, the change and what is then in staged are the definition's, whichever state it was
+unfoldable pub Ends : Ending → D.Table → Seen → List ℕ → Effect → List ℕ → Type 0
+Ends e t s staged d after =
+    (queue sent : List ℕ) (n : ℕ) → Sees t queue staged sent n s
+    → Fits (d .change) × (outcome (acted (d .answer)) (applied t (d .change)) queue after sent ≡ called (lent t queue staged sent) (act (callOf e n)))

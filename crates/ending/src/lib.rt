@@ -5,32 +5,39 @@ use channel::PeerNumber;
 use channel::Record;
 use channel::Refusal;
 use channel::Table;
+use channel::zero_record;
 use frames::put_close;
 use frames::put_eof;
-use lookup::Found;
-use lookup::find;
-use lookup::free_place;
-use lookup::has_entry;
-use lookup::with_record;
-use soundness::sound;
+use lookup::Change;
+use lookup::changed;
+use lookup::kept;
+use lookup::unmark;
+use soundness::Seen;
+use soundness::see;
 ghost use mathlib.Core.Path.{_≡_};
 ghost use mathlib.Core.Bool.{true};
-ghost use Prim.Native.Nat.{ℕ, _+_, _≤_, _<_};
+ghost use Prim.Native.Nat.{_+_, _≤_, _<_};
 ghost use lib.ListN.{length};
 ghost use Rattle.laws.specs.Bits.{bit};
 ghost use Rattle.octets.specs.Buf.{write};
+ghost use Rattle.channel.specs.declared.Acted.the-variants.{Refused};
 ghost use Rattle.channel.specs.State.{placeCount, mostBytes};
 ghost use Rattle.channel.specs.Wire.{frame};
 ghost use Rattle.channel.specs.Call.{act, eof, close};
 ghost use Rattle.channel.specs.Called.{lent, outcome, called};
-ghost use Rattle.channel.specs.Answers.{acted, refusal};
-ghost use Rattle.lookup.specs.Update.{stagedMore};
-ghost use Rattle.ending.specs.Ends.{callOf, messageOf, marks, leaves, Planned};
+ghost use Rattle.channel.specs.Answers.{acted};
+ghost use Rattle.ending.specs.Ends.{messageOf, marks, usedAfter, recordAfter, Planned, SeenIn, Ends};
 
-// The answer, and the table after the call.
+// The table after the call, and the answer. The table stands first: behind the two bytes of the answer it is copied once more.
 pub struct Ended {
-    pub answer: Acted,
     pub table: Table,
+    pub answer: Acted,
+}
+
+// The answer, and the change to the table.
+struct Effect {
+    answer: Acted,
+    change: Change,
 }
 
 // Which of the two messages.
@@ -91,69 +98,73 @@ fn put_ending(e: Ending, dst: &mut [u8], at: usize, peer: PeerNumber)
     }
 }
 
-// The table once the message of the record at place i is staged: after a CLOSE the place is free.
-fn staged_table(e: Ending, t: Table, i: usize) -> Table
-    requires { ⌜ (i < placeCount) × (bit (t .used) i ≡ true) × (t .«staged_used» + 9 ≤ mostBytes) ⌝ }
-    ensures { λ s. ⌜ s ≡ stagedMore (leaves e t i) 9 ⌝ }
+// The used word once the message of the record at place i is staged: after a CLOSE the place is free.
+fn used_after(e: Ending, used: u32, i: usize) -> u32
+    requires { ⌜ (i < placeCount) × (bit used i ≡ true) ⌝ }
+    ensures { λ w. ⌜ w ≡ usedAfter e used i ⌝ }
 {
-    let mut next = t;
-    next.staged_used = t.staged_used + 9;
     match e {
-        Ending::Eof => next,
-        Ending::Close => free_place(next, i),
+        Ending::Eof => used,
+        Ending::Close => unmark(used, i),
+    }
+}
+
+// The same for what stands at the place.
+fn record_after(e: Ending, r: Record) -> Record
+    ensures { λ s. ⌜ s ≡ recordAfter e r ⌝ }
+{
+    match e {
+        Ending::Eof => r,
+        Ending::Close => zero_record(),
     }
 }
 
 // A refusal, which changes nothing.
-fn refused(t: Table, k: Refusal) -> Ended
-    ensures { λ r. ⌜ (acted (r .answer) ≡ refusal k) × (r .table ≡ t) ⌝ }
+fn refused(c: Change, k: Refusal) -> Effect
+    ensures { λ d. ⌜ d ≡ record { answer = Refused k; change = c } ⌝ }
 {
-    Ended {
+    Effect {
         answer: Acted::Refused(k),
-        table: t,
+        change: c,
     }
 }
 
-// Both calls: they differ in the mark, the message and the table after it.
-fn end_with(
-    e: Ending,
-    t: Table,
-    queue: &[u8],
-    staged: &mut [u8],
-    sent: &[u8],
-    n: ChannelId,
-) -> Ended
-    ensures { λ r. ⌜ outcome (acted (r .answer)) (r .table) (now (queue .exit)) (now (staged .exit)) (now (sent .exit))
-        ≡ called (lent t (now (queue .entry)) (now (staged .entry)) (now (sent .entry))) (act (callOf e (n .0))) ⌝ }
+// Both calls, by what was seen of the channel: they differ in the mark, the message and the place after it.
+fn end_with(e: Ending, t: Table, seen: Seen, staged: &mut [u8]) -> Effect
+    requires { ⌜ SeenIn t (now staged) seen ⌝ }
+    ensures { λ d. ⌜ Ends e t seen (now (staged .entry)) d (now (staged .exit)) ⌝ }
 {
-    if sound(t, queue, &staged[..], sent) {
-        let f = find(t, n);
-        match f {
-            Found::Nothing => refused(t, Refusal::Unknown),
-            Found::At(i) => {
-                let r = t.records[i];
-                let at = t.staged_used;
-                let p = decide(r.confirmed, has_entry(t, n), at, staged.len());
-                match p {
-                    Plan::Refuse(k) => refused(t, k),
-                    Plan::Mark => Ended {
+    let c = kept(t);
+    match seen {
+        Seen::Unsound => refused(c, Refusal::State),
+        Seen::Unknown => refused(c, Refusal::Unknown),
+        Seen::At(i, r, waits) => {
+            let at = t.staged_used;
+            let p = decide(r.confirmed, waits, at, staged.len());
+            let mut next = c;
+            next.at = i;
+            match p {
+                Plan::Refuse(k) => refused(c, k),
+                Plan::Mark => {
+                    next.params = marked(e, r);
+                    Effect {
                         answer: Acted::Done,
-                        table: with_record(t, i, marked(e, r)),
-                    },
-                    Plan::Send => {
-                        let peer = r.recipient_channel;
-                        put_ending(e, staged, at, peer);
-                        let next = staged_table(e, t, i);
-                        Ended {
-                            answer: Acted::Done,
-                            table: next,
-                        }
+                        change: next,
+                    }
+                }
+                Plan::Send => {
+                    let peer = r.recipient_channel;
+                    put_ending(e, staged, at, peer);
+                    next.used = used_after(e, t.used, i);
+                    next.params = record_after(e, r);
+                    next.staged_used = at + 9;
+                    Effect {
+                        answer: Acted::Done,
+                        change: next,
                     }
                 }
             }
         }
-    } else {
-        refused(t, Refusal::State)
     }
 }
 
@@ -162,7 +173,13 @@ pub fn eof(t: Table, queue: &[u8], staged: &mut [u8], sent: &[u8], n: ChannelId)
     ensures { λ r. ⌜ outcome (acted (r .answer)) (r .table) (now (queue .exit)) (now (staged .exit)) (now (sent .exit))
         ≡ called (lent t (now (queue .entry)) (now (staged .entry)) (now (sent .entry))) (act (eof (n .0))) ⌝ }
 {
-    end_with(Ending::Eof, t, queue, staged, sent, n)
+    let seen = see(t, queue, &staged[..], sent, n);
+    let done = end_with(Ending::Eof, t, seen, staged);
+    let answer = done.answer;
+    Ended {
+        table: changed(t, done.change),
+        answer,
+    }
 }
 
 // The channel is closed at this end.
@@ -170,5 +187,11 @@ pub fn close(t: Table, queue: &[u8], staged: &mut [u8], sent: &[u8], n: ChannelI
     ensures { λ r. ⌜ outcome (acted (r .answer)) (r .table) (now (queue .exit)) (now (staged .exit)) (now (sent .exit))
         ≡ called (lent t (now (queue .entry)) (now (staged .entry)) (now (sent .entry))) (act (close (n .0))) ⌝ }
 {
-    end_with(Ending::Close, t, queue, staged, sent, n)
+    let seen = see(t, queue, &staged[..], sent, n);
+    let done = end_with(Ending::Close, t, seen, staged);
+    let answer = done.answer;
+    Ended {
+        table: changed(t, done.change),
+        answer,
+    }
 }

@@ -146,7 +146,7 @@ pub fn changed(t: Table, c: Change) -> Table
 }
 
 // The word with the clear bit i set.
-fn mark(used: u32, i: usize) -> u32
+pub fn mark(used: u32, i: usize) -> u32
     requires { ⌜ (i < placeCount) × (bit used i ≡ false) ⌝ }
     ensures { λ r. ⌜ r ≡ used + 2 ^ i ⌝ }
 {
@@ -154,7 +154,7 @@ fn mark(used: u32, i: usize) -> u32
 }
 
 // The word with the set bit i cleared.
-fn unmark(used: u32, i: usize) -> u32
+pub fn unmark(used: u32, i: usize) -> u32
     requires { ⌜ (i < placeCount) × (bit used i ≡ true) ⌝ }
     ensures { λ r. ⌜ r ≡ used - 2 ^ i ⌝ }
 {

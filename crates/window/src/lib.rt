@@ -7,26 +7,32 @@ use channel::Refusal;
 use channel::Table;
 use channel::WindowSize;
 use frames::put_adjust;
-use lookup::Found;
-use lookup::find;
-use lookup::has_entry;
-use lookup::stage_more;
-use lookup::with_record;
-use soundness::sound;
+use lookup::Change;
+use lookup::changed;
+use lookup::kept;
+use soundness::Seen;
+use soundness::see;
 ghost use mathlib.Core.Path.{_≡_};
-ghost use Prim.Native.Nat.{ℕ, _≤_};
+ghost use Prim.Native.Nat.{_≤_};
+ghost use Rattle.channel.specs.declared.Charged.the-variants.{Refused};
 ghost use Rattle.channel.specs.State.{mostBytes};
 ghost use Rattle.channel.specs.Call.{act, adjust, windowOf, hasPending};
 ghost use Rattle.channel.specs.Change.{withWindow};
 ghost use Rattle.channel.specs.Decide as D;
 ghost use Rattle.channel.specs.Called.{lent, outcome, called};
-ghost use Rattle.channel.specs.Answers.{charged, windowSize, pendingData, refusal};
-ghost use Rattle.window.specs.Adjusts.{Planned};
+ghost use Rattle.channel.specs.Answers.{charged, windowSize, pendingData};
+ghost use Rattle.window.specs.Adjusts.{Planned, SeenIn, Adjusts};
 
-// The answer, and the table after the call.
+// The table after the call, and the answer. The table stands first: behind the two bytes of the answer it is copied once more.
 pub struct Adjustment {
-    pub answer: Charged,
     pub table: Table,
+    pub answer: Charged,
+}
+
+// The answer, and the change to the table.
+struct Effect {
+    answer: Charged,
+    change: Change,
 }
 
 // What is to be done for a record that was found.
@@ -70,12 +76,51 @@ fn with_window(r: Record, window: u32) -> Record
 }
 
 // A refusal, which changes nothing.
-fn refused(t: Table, k: Refusal) -> Adjustment
-    ensures { λ r. ⌜ (charged (r .answer) ≡ refusal k) × (r .table ≡ t) ⌝ }
+fn refused(c: Change, k: Refusal) -> Effect
+    ensures { λ d. ⌜ d ≡ record { answer = Refused k; change = c } ⌝ }
 {
-    Adjustment {
+    Effect {
         answer: Charged::Refused(k),
-        table: t,
+        change: c,
+    }
+}
+
+// The call by what was seen of the channel.
+fn adjust(t: Table, seen: Seen, staged: &mut [u8], n: u32, target: u32) -> Effect
+    requires { ⌜ SeenIn t (now staged) seen ⌝ }
+    ensures { λ d. ⌜ Adjusts n target t seen (now (staged .entry)) d (now (staged .exit)) ⌝ }
+{
+    let c = kept(t);
+    match seen {
+        Seen::Unsound => refused(c, Refusal::State),
+        Seen::Unknown => refused(c, Refusal::Unknown),
+        Seen::At(i, r, _) => {
+            let at = t.staged_used;
+            let window = charge(n, r.sender_window_size);
+            let p = decide(r.confirmed, window, target, at, staged.len());
+            let mut next = c;
+            next.at = i;
+            match p {
+                Plan::Refuse(k) => refused(c, k),
+                Plan::Keep => {
+                    next.params = with_window(r, window);
+                    Effect {
+                        answer: Charged::Adjusted(false),
+                        change: next,
+                    }
+                }
+                Plan::Adjust => {
+                    let peer = r.recipient_channel;
+                    put_adjust(staged, at, peer, target - window);
+                    next.params = with_window(r, target);
+                    next.staged_used = at + 13;
+                    Effect {
+                        answer: Charged::Adjusted(true),
+                        change: next,
+                    }
+                }
+            }
+        }
     }
 }
 
@@ -92,35 +137,12 @@ pub fn adjust_window_size(
     ensures { λ r. ⌜ outcome (charged (r .answer)) (r .table) (now (queue .exit)) (now (staged .exit)) (now (sent .exit))
         ≡ called (lent t (now (queue .entry)) (now (staged .entry)) (now (sent .entry))) (act (adjust (number .0) n target)) ⌝ }
 {
-    if sound(t, queue, &staged[..], sent) {
-        let f = find(t, number);
-        match f {
-            Found::Nothing => refused(t, Refusal::Unknown),
-            Found::At(i) => {
-                let r = t.records[i];
-                let at = t.staged_used;
-                let window = charge(n, r.sender_window_size);
-                let p = decide(r.confirmed, window, target, at, staged.len());
-                match p {
-                    Plan::Refuse(k) => refused(t, k),
-                    Plan::Keep => Adjustment {
-                        answer: Charged::Adjusted(false),
-                        table: with_record(t, i, with_window(r, window)),
-                    },
-                    Plan::Adjust => {
-                        let peer = r.recipient_channel;
-                        put_adjust(staged, at, peer, target - window);
-                        let next = with_record(t, i, with_window(r, target));
-                        Adjustment {
-                            answer: Charged::Adjusted(true),
-                            table: stage_more(next, 13),
-                        }
-                    }
-                }
-            }
-        }
-    } else {
-        refused(t, Refusal::State)
+    let seen = see(t, queue, &staged[..], sent, number);
+    let done = adjust(t, seen, staged, n, target);
+    let answer = done.answer;
+    Adjustment {
+        table: changed(t, done.change),
+        answer,
     }
 }
 
@@ -135,17 +157,11 @@ pub fn sender_window_size(
     ensures { λ r. ⌜ outcome (windowSize r) t (now (queue .exit)) (now (staged .exit)) (now (sent .exit))
         ≡ called (lent t (now (queue .entry)) (now (staged .entry)) (now (sent .entry))) (act (windowOf (number .0))) ⌝ }
 {
-    if sound(t, queue, staged, sent) {
-        let f = find(t, number);
-        match f {
-            Found::Nothing => WindowSize::Window(0),
-            Found::At(i) => {
-                let r = t.records[i];
-                WindowSize::Window(r.sender_window_size)
-            }
-        }
-    } else {
-        WindowSize::Refused(Refusal::State)
+    let seen = see(t, queue, staged, sent, number);
+    match seen {
+        Seen::Unsound => WindowSize::Refused(Refusal::State),
+        Seen::Unknown => WindowSize::Window(0),
+        Seen::At(_, r, _) => WindowSize::Window(r.sender_window_size),
     }
 }
 
@@ -160,10 +176,10 @@ pub fn has_pending_data(
     ensures { λ r. ⌜ outcome (pendingData r) t (now (queue .exit)) (now (staged .exit)) (now (sent .exit))
         ≡ called (lent t (now (queue .entry)) (now (staged .entry)) (now (sent .entry))) (act (hasPending (number .0))) ⌝ }
 {
-    if sound(t, queue, staged, sent) {
-        let b = has_entry(t, number);
-        PendingData::Pending(b)
-    } else {
-        PendingData::Refused(Refusal::State)
+    let seen = see(t, queue, staged, sent, number);
+    match seen {
+        Seen::Unsound => PendingData::Refused(Refusal::State),
+        Seen::Unknown => PendingData::Pending(false),
+        Seen::At(_, _, b) => PendingData::Pending(b),
     }
 }

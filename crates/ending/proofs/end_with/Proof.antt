@@ -1,183 +1,120 @@
--- The state is sound from the first test on (`Then1`), and the record found once the match has told its place (`After-f`): each return
--- is then one law of `Ways`, with the carry-out's promise.
+-- Each return is one law of `Ways`, by what was seen and planned.
 -- Assumes nothing.
-use mathlib.Core.Path.{_≡_, sym, ap, ap₂, _∙_}
-use mathlib.Core.Bool.{true}
 use native.Mathlib.Omega.{arith}
-use Rattle.channel.specs.Call.{gave, done}
-use Rattle.channel.specs.Raw.{Raw}
-use Rattle.channel.specs.Raw as R
-use Rattle.channel.specs.Sound.{isSound}
-use Rattle.channel.specs.Called.{Typed, lent, outcome}
-use Rattle.channel.specs.Answers as A
-use Rattle.lookup.specs.Held.{HeldAt}
-use Rattle.lookup.specs.Held as H
-use Rattle.lookup.specs.Limits.{Limits}
-use Rattle.lookup.specs.Update.{recordSet}
-use Rattle.lookup.proofs.Limits.{limits}
-use Rattle.lookup.proofs.Branch as B
-use Rattle.lookup.proofs.Branch.{refusal-is}
-use Rattle.ending.specs.declared.Ending.{Ending}
-use Rattle.ending.proofs.Ways as W
 use borrow.Author.Needs.{needs}
+use Rattle.ending.proofs.Ways as W
 use Rattle.ending.proofs.end_with.Statement.{statement}
 use Rattle.ending.proofs.end_with.Tie as tie
 
-abbrev state : tie.After-sound → Raw
-state c = let a = c .before .before .before .before .before .args in lent (a .t2) (a .queue .now) (a .staged .now) (a .sent .now)
-
-abbrev which : tie.After-sound → Ending
-which c = c .before .before .before .before .before .args .e
-
-typed : (c : tie.After-sound) → Typed (state c)
-typed c = c .sound .ensures .typed
-
-sound : (c : tie.Then1) → isSound (state (c .before)) ≡ true
-sound c = sym (c .before .sound .ensures .is) ∙ c .if1 .taken
-
-bounds : (c : tie.Then1) → Limits (state (c .before))
-bounds c = limits (state (c .before)) (sound c)
-
-at : (c : tie.After-f) → HeldAt (state (c .before .before .before .before) .held) (c .before .before .before .before .before .before .before .before .before .args .n .0) (c .f .given .0 .0)
-unfolding H.Finds
-at c = rw (c .f .given .1) at (c .before .before .find .ensures)
-
-sound-requires : tie.Need-sound-requires
-sound-requires c κs = search needs
-
-find-requires : tie.Need-find-requires
-find-requires c κs = search needs
+kept-requires : tie.Need-kept-requires
+kept-requires c κs = search needs
 
 enum-told : tie.Need-enum-told
 enum-told c = search needs
 
-enum-known-f : tie.Need-enum-known-f
-enum-known-f c = search needs
-
-mul-r : tie.Need-mul-r
-mul-r c = omega (arith, at (c .before) .place)
-
-element-copy-out-r : tie.Need-element-copy-out-r
-element-copy-out-r c = at (c .before) .place
-
-has-entry-requires : tie.Need-has-entry-requires
-has-entry-requires c κs = bounds (c .before .before .before .before .before) .few
-
-decide-requires : tie.Need-decide-requires
-decide-requires c κs = omega (arith, bounds (c .before .before .before .before .before .before) .stagedUsed, bounds (c .before .before .before .before .before .before) .stagedLong)
-
-enum-known-p : tie.Need-enum-known-p
-enum-known-p c = search needs
+refused-requires : tie.Need-refused-requires
+refused-requires c κs = search needs
 
 enum-told-2 : tie.Need-enum-told-2
 enum-told-2 c = search needs
 
-marked-requires : tie.Need-marked-requires
-marked-requires c κs = search needs
-
-with-record-requires : tie.Need-with-record-requires
-with-record-requires c κs = at (c .before .before .before .before .before .before .before) .place
-
-enum-told-3 : tie.Need-enum-told-3
-enum-told-3 c = search needs
-
-put-ending-requires : tie.Need-put-ending-requires
-put-ending-requires c κs = (rw (c .before .before .enum-told3 .given .1) at (c .before .before .before .before .decide .ensures)) .2
-
-staged-table-requires : tie.Need-staged-table-requires
-staged-table-requires c κs =
-    let h = at (c .before .before .before .before .before .before .before .before .before .before .before) in
-    let f = rw (c .before .before .before .before .before .enum-told3 .given .1) at (c .before .before .before .before .before .before .before .decide .ensures) in
-    (h .place, h .used, omega (arith, f .2, bounds (c .before .before .before .before .before .before .before .before .before .before .before .before .before .before) .stagedLong))
-
-refused-requires : tie.Need-refused-requires
-refused-requires c κs = search needs
-
-same-length : tie.Need-same-length
-same-length c = search needs
-
-returns : tie.Need-returns
-unfolding H.Finds A.acted
-returns c =
-    let s = c .before .before .before .before in
-    refusal-is (state (s .before)) (c .refused .ensures .0) (c .refused .ensures .1) ∙ sym (W.unknown (state (s .before)) (typed (s .before)) (sound s) (which (s .before)) _ (rw (c .before .enum-told .given .1) at (c .before .before .before .find .ensures)))
-
 refused-requires-2 : tie.Need-refused-requires-2
 refused-requires-2 c κs = search needs
 
-same-length-2 : tie.Need-same-length-2
-same-length-2 c = search needs
+enum-known-seen : tie.Need-enum-known-seen
+enum-known-seen c = search needs
 
-returns-2 : tie.Need-returns-2
-unfolding A.acted R.zeroRecord
-returns-2 c =
-    let s = c .before .before .before .before .before .before .before .before .before .before .before in
-    let f = rw (c .before .before .p .given .1) at (c .before .before .before .before .decide .ensures) in
-    refusal-is (state (s .before)) (c .refused2 .ensures .0) (c .refused2 .ensures .1) ∙ sym (W.stopped (state (s .before)) (typed (s .before)) (sound s) (which (s .before)) _ _ (at (c .before .before .before .before .before .before .before .before)) _ (c .before .before .before .before .before .has-entry .ensures) f)
+decide-requires : tie.Need-decide-requires
+decide-requires c κs = let f = W.ready (c .before .seen .given .1) (c .before .before .before .before .before .pre) in omega arith
 
-same-length-3 : tie.Need-same-length-3
-same-length-3 c = search needs
-
-returns-3 : tie.Need-returns-3
-unfolding A.acted R.zeroRecord
-returns-3 c =
-    let s = c .before .before .before .before .before .before .before .before .before .before .before in
-    let f = rw (c .before .before .enum-told2 .given .1) at (c .before .before .before .before .decide .ensures) in
-    let r = state (s .before) in
-    ap (λ x. outcome (gave done) x (r .queue) (r .staged) (r .sent)) (c .with-record .ensures ∙ ap (recordSet (r .held) _) (c .before .marked .ensures))
-    ∙ sym (W.marked r (typed (s .before)) (sound s) (which (s .before)) _ _ (at (c .before .before .before .before .before .before .before .before)) _ (c .before .before .before .before .before .has-entry .ensures) (f .0) (f .1))
-
-same-length-4 : tie.Need-same-length-4
-same-length-4 c = search needs
-
-returns-4 : tie.Need-returns-4
-unfolding A.acted R.zeroRecord
-returns-4 c =
-    let s = c .before .before .before .before .before .before .before .before .before .before .before .before .before .before .before in
-    let f = rw (c .before .before .before .before .before .before .enum-told3 .given .1) at (c .before .before .before .before .before .before .before .before .decide .ensures) in
-    let r = state (s .before) in
-    ap₂ (λ x y. outcome (gave done) x (r .queue) y (r .sent)) (c .staged-table .ensures) (c .before .before .before .put-ending .ensures)
-    ∙ sym (W.sent r (typed (s .before)) (sound s) (which (s .before)) _ _ (at (c .before .before .before .before .before .before .before .before .before .before .before .before)) _ (c .before .before .before .before .before .before .before .before .before .has-entry .ensures) (f .0) (f .1) (f .2))
+enum-known-p : tie.Need-enum-known-p
+enum-known-p c = search needs
 
 refused-requires-3 : tie.Need-refused-requires-3
 refused-requires-3 c κs = search needs
 
-same-length-5 : tie.Need-same-length-5
-same-length-5 c = search needs
+enum-told-3 : tie.Need-enum-told-3
+enum-told-3 c = search needs
+
+marked-requires : tie.Need-marked-requires
+marked-requires c κs = search needs
+
+enum-told-4 : tie.Need-enum-told-4
+enum-told-4 c = search needs
+
+put-ending-requires : tie.Need-put-ending-requires
+put-ending-requires c κs = (rw (c .before .before .enum-told4 .given .1) at (c .before .before .before .before .decide .ensures)) .2
+
+used-after-requires : tie.Need-used-after-requires
+used-after-requires c κs =
+    let s = c .before .before .before .before .before .before .before .before .before in
+    let f = W.ready (s .seen .given .1) (s .before .before .before .before .pre) in
+    (f .0, f .1)
+
+record-after-requires : tie.Need-record-after-requires
+record-after-requires c κs = search needs
+
+add-next : tie.Need-add-next
+add-next c =
+    let d = c .before .before .before .before .before .before .before .before .before in
+    let f = W.ready (d .before .before .seen .given .1) (d .before .before .before .before .before .before .pre) in
+    omega (arith, (rw (c .before .before .before .before .before .before .before .enum-told4 .given .1) at (d .decide .ensures)) .2)
+
+returns : tie.Need-returns
+returns c = W.unsound _ _ _ _ (c .before .enum-told .given .1) (c .refused .ensures) (c .before .before .before .kept .ensures)
+
+returns-2 : tie.Need-returns-2
+returns-2 c = W.unknown _ _ _ _ (c .before .enum-told2 .given .1) (c .refused2 .ensures) (c .before .before .before .kept .ensures)
+
+returns-3 : tie.Need-returns-3
+returns-3 c =
+    let d = c .before .before .before .before in
+    let s = d .before .before in
+    W.stopped _ _ _ _ _ _ _ (s .seen .given .1) (rw (c .before .before .p .given .1) at (d .decide .ensures)) (c .refused3 .ensures) (s .before .before .kept .ensures)
+
+returns-4 : tie.Need-returns-4
+returns-4 c =
+    let d = c .before .before .before in
+    let s = d .before .before in
+    W.marked _ _ _ _ _ _ _ (s .seen .given .1) (rw (c .before .enum-told3 .given .1) at (d .decide .ensures)) (s .before .before .kept .ensures) (c .marked .ensures)
+
+same-length : tie.Need-same-length
+same-length c = search needs
 
 returns-5 : tie.Need-returns-5
-unfolding A.acted A.refusal A.refusalNumber
-returns-5 c = refusal-is (state (c .before .before)) (c .refused3 .ensures .0) (c .refused3 .ensures .1) ∙ sym (B.unsound (state (c .before .before)) _ (sym (c .before .before .sound .ensures .is) ∙ c .before .if1 .left))
+returns-5 c =
+    let d = c .before .before .before .before .before .before .before .before .before in
+    let s = d .before .before in
+    W.sent _ _ _ _ _ _ _ (s .seen .given .1)
+    (rw (c .before .before .before .before .before .before .before .enum-told4 .given .1) at (d .decide .ensures))
+    (s .before .before .kept .ensures)
+    (c .before .used-after .ensures)
+    (c .record-after .ensures)
+    (c .before .before .before .before .put-ending .ensures)
 
 pub end-with-spec : {M : Type 1} → statement M
 end-with-spec =
     tie.close
     (tie.spec
-    sound-requires
-    find-requires
+    kept-requires
     enum-told
     refused-requires
-    enum-known-f
-    mul-r
-    element-copy-out-r
-    has-entry-requires
+    enum-told-2
+    refused-requires-2
+    enum-known-seen
     decide-requires
     enum-known-p
-    refused-requires-2
-    enum-told-2
-    marked-requires
-    with-record-requires
-    enum-told-3
-    put-ending-requires
-    staged-table-requires
     refused-requires-3
-    same-length
+    enum-told-3
+    marked-requires
+    enum-told-4
+    put-ending-requires
+    used-after-requires
+    record-after-requires
+    add-next
     returns
-    same-length-2
     returns-2
-    same-length-3
     returns-3
-    same-length-4
     returns-4
-    same-length-5
+    same-length
     returns-5)
