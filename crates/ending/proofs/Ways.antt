@@ -29,24 +29,21 @@ use Rattle.channel.specs.Answers as A
 use Rattle.lookup.specs.declared.Change.{Change}
 use Rattle.lookup.specs.Held.{HeldAt, recordAt}
 use Rattle.lookup.specs.Update.{placed, counted, recordSet, stagedMore}
-use Rattle.lookup.specs.Changed.{keptOf, applied}
-use Rattle.lookup.proofs.Limits.{limits}
+use Rattle.lookup.specs.Changed.{keptOf}
 use Rattle.lookup.proofs.Bridge.{Put}
 use Rattle.lookup.proofs.Framed.{put-frame}
 use Rattle.lookup.proofs.Decided.{if-true, if-false, serves-is, none-passes, held-fails, held-passes, held-has, by-act}
-use Rattle.lookup.proofs.Branch.{refusal-is}
 use Rattle.lookup.proofs.Branch as B
-use Rattle.lookup.proofs.Changes.{all-kept, recorded, recorded-is}
+use Rattle.lookup.proofs.Changes.{recorded}
 use Rattle.soundness.specs.declared.Seen.{Seen}
 use Rattle.soundness.specs.declared.Seen.the-variants.{Unsound, Unknown, At}
-use Rattle.soundness.specs.Sees.{Sees, SeenAt}
-use Rattle.soundness.specs.Sees as S
+use Rattle.soundness.specs.Sees.{Gives}
+use Rattle.soundness.proofs.Told.{none, seen, refusing, refusing-unsound, going}
 use Rattle.frames.proofs.Packets.{frames-one, length-eof, length-close}
 use Rattle.ending.specs.declared.Effect.{Effect}
 use Rattle.ending.specs.declared.Ending.{Ending}
 use Rattle.ending.specs.declared.Ending.the-variants.{Eof, Close}
-use Rattle.ending.specs.Ends.{callOf, messageOf, marks, usedAfter, recordAfter, Stops, unconfirmed, full, SeenIn, Ends}
-use Rattle.ending.specs.Ends as N
+use Rattle.ending.specs.Ends.{callOf, messageOf, marks, usedAfter, recordAfter, Stops, unconfirmed, full}
 
 -- THE DECISION
 
@@ -137,66 +134,42 @@ module _ (r : Raw) (ty : Typed r) (sd : isSound r ≡ true) (e : Ending) (n : �
 
 -- WHAT THE CODE GIVES, by what it saw
 
-seen : {t : D.Table} {queue staged sent : List ℕ} {n i : ℕ} {s : Seen} {r : Record} {waits : Bool} → s ≡ At i r waits → Sees t queue staged sent n s → SeenAt t queue staged sent n i r waits
-unfolding S.SeenAs
-seen v z = rw v at (z .is)
-
--- its place is used, and staged is in its bounds
-pub ready : {t : D.Table} {staged : List ℕ} {i : ℕ} {s : Seen} {r : Record} {waits : Bool} → s ≡ At i r waits → SeenIn t staged s
-    → (i < placeCount) × (bit (t .used) i ≡ true) × (t .«staged_used» ≤ length staged) × (length staged ≤ mostBytes)
-ready {t} {staged} v p =
-    let y = seen v (p .sees) in
-    let b = limits (lent t (p .queue) staged (p .sent)) (y .sound) in
-    (y .held .place, y .held .used, b .stagedUsed, b .stagedLong)
-
 module _ (e : Ending) (t : D.Table) (s : Seen) (staged : List ℕ) where
-  -- the call, whose last step is the change
-  pub whole : (d : Effect) (after queue sent : List ℕ) (n : ℕ) {x : D.Table} → Ends e t s staged d after → Sees t queue staged sent n s → x ≡ applied t (d .change)
-      → outcome (acted (d .answer)) x queue after sent ≡ called (lent t queue staged sent) (act (callOf e n))
-  unfolding N.Ends
-  whole d after queue sent n f z p = ap (λ y. outcome (acted (d .answer)) y queue after sent) p ∙ (f queue sent n z) .1
-
   -- nothing changes
-  refusing : (k : Refusal) {d : Effect} {c : Change} → d ≡ record { answer = Refused k; change = c } → c ≡ keptOf t
-      → ((queue sent : List ℕ) (n : ℕ) → Sees t queue staged sent n s → called (lent t queue staged sent) (act (callOf e n)) ≡ record { answer = refusal k; state = lent t queue staged sent })
-      → Ends e t s staged d staged
-  unfolding N.Ends A.acted
-  refusing k p q f = rw (p, q) (λ queue sent n z. (record { place = omega arith; slot = omega arith }, refusal-is (lent t queue staged sent) refl (all-kept t) ∙ sym (f queue sent n z)))
+  refused : (k : Refusal) {d : Effect} {c : Change} → d ≡ record { answer = Refused k; change = c } → Gives t s staged staged c (refusal k) (callOf e)
+      → Gives t s staged staged (d .change) (acted (d .answer)) (callOf e)
+  unfolding A.acted
+  refused k p g = rw p g
 
-  pub unsound : {d : Effect} {c : Change} → s ≡ Unsound → d ≡ record { answer = Refused Refusal.State; change = c } → c ≡ keptOf t → Ends e t s staged d staged
-  unfolding S.SeenAs A.refusal A.refusalNumber
-  unsound v p q = refusing Refusal.State p q (λ queue sent n z. B.unsound (lent t queue staged sent) (act (callOf e n)) (rw v at (z .is)))
+  pub unsound : {d : Effect} {c : Change} → s ≡ Unsound → d ≡ record { answer = Refused Refusal.State; change = c } → c ≡ keptOf t → Gives t s staged staged (d .change) (acted (d .answer)) (callOf e)
+  unsound v p q = refused Refusal.State p (refusing-unsound t s staged (callOf e) v q)
 
-  pub unknown : {d : Effect} {c : Change} → s ≡ Unknown → d ≡ record { answer = Refused Refusal.Unknown; change = c } → c ≡ keptOf t → Ends e t s staged d staged
-  unfolding S.SeenAs
-  unknown v p q = refusing Refusal.Unknown p q (λ queue sent n z. let y = rw v at (z .is) in unknown-is (lent t queue staged sent) (z .typed) (y .0) e n (y .1))
+  pub unknown : {d : Effect} {c : Change} → s ≡ Unknown → d ≡ record { answer = Refused Refusal.Unknown; change = c } → c ≡ keptOf t → Gives t s staged staged (d .change) (acted (d .answer)) (callOf e)
+  unknown v p q =
+      refused Refusal.Unknown p
+      (refusing t s staged (callOf e) Refusal.Unknown q (λ queue sent n z. let y = none z v in unknown-is (lent t queue staged sent) (z .typed) (y .0) e n (y .1)))
 
   module _ (i : ℕ) (r : Record) (waits : Bool) (v : s ≡ At i r waits) where
-    pub stopped : {k : Refusal} {d : Effect} {c : Change} → Stops (r .confirmed) waits (t .«staged_used») (length staged) k → d ≡ record { answer = Refused k; change = c } → c ≡ keptOf t → Ends e t s staged d staged
+    pub stopped : {k : Refusal} {d : Effect} {c : Change} → Stops (r .confirmed) waits (t .«staged_used») (length staged) k → d ≡ record { answer = Refused k; change = c } → c ≡ keptOf t
+        → Gives t s staged staged (d .change) (acted (d .answer)) (callOf e)
     stopped {k} x p q =
-        refusing k p q
-        (λ queue sent n z. let y = seen v z in stopped-is (lent t queue staged sent) (z .typed) (y .sound) e n i (y .held) waits (y .waits-is) (rw (y .record-is) at x))
-
-    -- another record, used word, and count and bytes of staged
-    going : (x : Record) (used n : ℕ) (after : List ℕ)
-        → ((queue sent : List ℕ) (m : ℕ) → SeenAt t queue staged sent m i r waits → Typed (lent t queue staged sent)
-        → called (lent t queue staged sent) (act (callOf e m)) ≡ outcome (gave done) (counted (placed t (t .last) used (set (t .records) i x)) n (t .«sent_used»)) queue after sent)
-        → Ends e t s staged (record { answer = Done; change = recorded (keptOf t) (t .last) used i x n }) after
-    unfolding N.Ends A.acted
-    going x used n after f queue sent m z =
-        (record { place = seen v z .held .place; slot = omega arith }, ap (λ y. outcome (gave done) y queue after sent) (recorded-is t (t .last) used i x n) ∙ sym (f queue sent m (seen v z) (z .typed)))
+        refused k p
+        (refusing t s staged (callOf e) k q
+        (λ queue sent n z. let y = seen z v in stopped-is (lent t queue staged sent) (z .typed) (y .sound) e n i (y .held) waits (y .waits-is) (rw (y .record-is) at x)))
 
     pub marked : {c : Change} {x : Record} → (r .confirmed ≡ true) × (waits ≡ true) → c ≡ keptOf t → x ≡ marks e r
-        → Ends e t s staged (record { answer = Done; change = recorded c (c .last) (c .used) i x (c .«staged_used») }) staged
+        → Gives t s staged staged (recorded c (c .last) (c .used) i x (c .«staged_used»)) (acted Done) (callOf e)
+    unfolding A.acted
     marked f q w =
         rw (q, w)
-        (going (marks e r) (t .used) (t .«staged_used») staged
+        (going t s staged (callOf e) v (gave done) (marks e r) (t .used) (t .«staged_used») staged
         (λ queue sent m y ty. rw (y .record-is) (marked-is (lent t queue staged sent) ty (y .sound) e m i (y .held) waits (y .waits-is) (rw (y .record-is) at (f .0)) (f .1))))
 
     pub sent : {c : Change} {x : Record} {used : ℕ} {after : List ℕ} → (r .confirmed ≡ true) × (waits ≡ false) × (t .«staged_used» + 9 ≤ length staged) → c ≡ keptOf t
         → used ≡ usedAfter e (t .used) i → x ≡ recordAfter e r → after ≡ write (t .«staged_used») (frame (messageOf e (peerOf r))) staged
-        → Ends e t s staged (record { answer = Done; change = recorded c (c .last) used i x (t .«staged_used» + 9) }) after
+        → Gives t s staged after (recorded c (c .last) used i x (t .«staged_used» + 9)) (acted Done) (callOf e)
+    unfolding A.acted
     sent f q u w o =
         rw (q, u, w, o)
-        (going (recordAfter e r) (usedAfter e (t .used) i) (t .«staged_used» + 9) (write (t .«staged_used») (frame (messageOf e (peerOf r))) staged)
+        (going t s staged (callOf e) v (gave done) (recordAfter e r) (usedAfter e (t .used) i) (t .«staged_used» + 9) (write (t .«staged_used») (frame (messageOf e (peerOf r))) staged)
         (λ queue sent m y ty. rw (y .record-is) (sent-is (lent t queue staged sent) ty (y .sound) e m i (y .held) waits (y .waits-is) (rw (y .record-is) at (f .0)) (f .1) (f .2))))

@@ -7,19 +7,12 @@ use mathlib.Core.List.{List}
 use Rattle.channel.specs.declared.Record.{Record}
 use Rattle.channel.specs.declared.Refusal.{Refusal}
 use Rattle.channel.specs.declared.Refusal.the-variants as Refusal
-use Rattle.channel.specs.declared.Table as D
 use Rattle.channel.specs.Wire.{eofMessage, closeMessage}
-use Rattle.channel.specs.Call.{Act, act, eof, close}
+use Rattle.channel.specs.Call.{Act, eof, close}
 use Rattle.channel.specs.Change.{withMarks}
 use Rattle.channel.specs.Raw.{zeroRecord}
-use Rattle.channel.specs.Called.{lent, outcome, called}
-use Rattle.channel.specs.Answers.{acted}
-use Rattle.lookup.specs.Changed.{Fits, applied}
-use Rattle.soundness.specs.declared.Seen.{Seen}
-use Rattle.soundness.specs.Sees.{Sees}
 use Rattle.ending.specs.declared.Ending.{Ending}
 use Rattle.ending.specs.declared.Ending.the-variants.{Eof, Close}
-use Rattle.ending.specs.declared.Effect.{Effect}
 use Rattle.ending.specs.declared.Plan.{Plan}
 use Rattle.ending.specs.declared.Plan.the-variants.{Refuse, Mark, Send}
 
@@ -57,16 +50,3 @@ abbrev pub Planned : Bool → Bool → ℕ → ℕ → Plan → Type 0
 Planned confirmed waits used size (Refuse k) = Stops confirmed waits used size k
 Planned confirmed waits used size Mark = (confirmed ≡ true) × (waits ≡ true)
 Planned confirmed waits used size Send = (confirmed ≡ true) × (waits ≡ false) × (used + 9 ≤ size)
-
--- some state with this table and this staged was seen so
-pub record SeenIn (t : D.Table) (staged : List ℕ) (s : Seen) : Type 0 where
-  pub queue : List ℕ
-  pub sent : List ℕ
-  pub number : ℕ
-  pub sees : Sees t queue staged sent number s
-
--- the answer, the change and what is then in staged are the definition's, whichever state it was
-unfoldable pub Ends : Ending → D.Table → Seen → List ℕ → Effect → List ℕ → Type 0
-Ends e t s staged d after =
-    (queue sent : List ℕ) (n : ℕ) → Sees t queue staged sent n s
-    → Fits (d .change) × (outcome (acted (d .answer)) (applied t (d .change)) queue after sent ≡ called (lent t queue staged sent) (act (callOf e n)))

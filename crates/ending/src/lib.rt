@@ -26,7 +26,8 @@ ghost use Rattle.channel.specs.Wire.{frame};
 ghost use Rattle.channel.specs.Call.{act, eof, close};
 ghost use Rattle.channel.specs.Called.{lent, outcome, called};
 ghost use Rattle.channel.specs.Answers.{acted};
-ghost use Rattle.ending.specs.Ends.{messageOf, marks, usedAfter, recordAfter, Planned, SeenIn, Ends};
+ghost use Rattle.soundness.specs.Sees.{SeenIn, Gives};
+ghost use Rattle.ending.specs.Ends.{callOf, messageOf, marks, usedAfter, recordAfter, Planned};
 
 // The table after the call, and the answer. The table stands first: behind the two bytes of the answer it is copied once more.
 pub struct Ended {
@@ -132,7 +133,7 @@ fn refused(c: Change, k: Refusal) -> Effect
 // Both calls, by what was seen of the channel: they differ in the mark, the message and the place after it.
 fn end_with(e: Ending, t: Table, seen: Seen, staged: &mut [u8]) -> Effect
     requires { ⌜ SeenIn t (now staged) seen ⌝ }
-    ensures { λ d. ⌜ Ends e t seen (now (staged .entry)) d (now (staged .exit)) ⌝ }
+    ensures { λ d. ⌜ Gives t seen (now (staged .entry)) (now (staged .exit)) (d .change) (acted (d .answer)) (callOf e) ⌝ }
 {
     let c = kept(t);
     match seen {

@@ -9,8 +9,11 @@ use Rattle.channel.specs.declared.Record.{Record}
 use Rattle.channel.specs.State.{nowhere, look, anyEntry}
 use Rattle.channel.specs.Raw.{placesOf, entriesOf}
 use Rattle.channel.specs.Sound.{isSound}
-use Rattle.channel.specs.Called.{Typed, lent}
+use Rattle.channel.specs.Call.{Act, Answer, act}
+use Rattle.channel.specs.Called.{Typed, lent, outcome, called}
+use Rattle.lookup.specs.declared.Change.{Change}
 use Rattle.lookup.specs.Held.{HeldAt, recordAt}
+use Rattle.lookup.specs.Changed.{Fits, applied}
 use Rattle.soundness.specs.declared.Seen.{Seen}
 use Rattle.soundness.specs.declared.Seen.the-variants.{Unsound, Unknown, At}
 
@@ -36,3 +39,17 @@ abbrev pub soundly : Seen → Bool
 soundly Unsound = false
 soundly Unknown = true
 soundly (At i r waits) = true
+
+-- WHAT A CALL MAKES OF IT
+
+-- some state with this table and this staged was seen so
+pub record SeenIn (t : D.Table) (staged : List ℕ) (s : Seen) : Type 0 where
+  pub queue : List ℕ
+  pub sent : List ℕ
+  pub number : ℕ
+  pub sees : Sees t queue staged sent number s
+
+-- whichever state it was, the change can be made, and the answer, the table with it and what is then in staged are the call's
+unfoldable pub Gives : D.Table → Seen → List ℕ → List ℕ → Change → Answer → (ℕ → Act) → Type 0
+Gives t s staged after c a call =
+    (queue sent : List ℕ) (n : ℕ) → Sees t queue staged sent n s → Fits c × (outcome a (applied t c) queue after sent ≡ called (lent t queue staged sent) (act (call n)))

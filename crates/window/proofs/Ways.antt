@@ -32,36 +32,18 @@ use Rattle.channel.proofs.Faithful.{sound-meaning}
 use Rattle.lookup.specs.declared.Change.{Change}
 use Rattle.lookup.specs.Held.{HeldAt, recordAt}
 use Rattle.lookup.specs.Update.{counted, recordSet, stagedMore}
-use Rattle.lookup.specs.Changed.{keptOf, applied}
-use Rattle.lookup.proofs.Limits.{limits}
+use Rattle.lookup.specs.Changed.{keptOf}
 use Rattle.lookup.proofs.Framed.{put-frame}
 use Rattle.lookup.proofs.Decided.{if-true, if-false, serves-is, has-is, none-look, none-used, none-passes, held-look, held-fails, held-passes, by-act}
-use Rattle.lookup.proofs.Branch.{refusal-is}
 use Rattle.lookup.proofs.Branch as B
-use Rattle.lookup.proofs.Changes.{all-kept, recorded, recorded-is}
+use Rattle.lookup.proofs.Changes.{recorded}
 use Rattle.soundness.specs.declared.Seen.{Seen}
 use Rattle.soundness.specs.declared.Seen.the-variants.{Unsound, Unknown, At}
-use Rattle.soundness.specs.Sees.{Sees, SeenAt}
-use Rattle.soundness.specs.Sees as S
+use Rattle.soundness.specs.Sees.{Sees, Gives}
+use Rattle.soundness.proofs.Told.{none, seen, refusing, refusing-unsound, going}
 use Rattle.frames.proofs.Packets.{frames-one, length-adjust}
 use Rattle.window.specs.declared.Effect.{Effect}
-use Rattle.window.specs.Adjusts.{Stops, unconfirmed, full, SeenIn, Adjusts}
-use Rattle.window.specs.Adjusts as N
-
--- BY WHAT WAS SEEN
-
-module _ {t : D.Table} {queue staged sent : List ℕ} {n : ℕ} {s : Seen} (z : Sees t queue staged sent n s) where
-  pub unsound : s ≡ Unsound → (k : Call) → called (lent t queue staged sent) k ≡ record { answer = refusal Refusal.State; state = lent t queue staged sent }
-  unfolding S.SeenAs A.refusal A.refusalNumber
-  unsound v k = B.unsound (lent t queue staged sent) k (rw v at (z .is))
-
-  none : s ≡ Unknown → (isSound (lent t queue staged sent) ≡ true) × (look n (placesOf (t .used) (t .records)) ≡ nowhere)
-  unfolding S.SeenAs
-  none v = rw v at (z .is)
-
-  seen : {i : ℕ} {r : Record} {waits : Bool} → s ≡ At i r waits → SeenAt t queue staged sent n i r waits
-  unfolding S.SeenAs
-  seen v = rw v at (z .is)
+use Rattle.window.specs.Adjusts.{Stops, unconfirmed, full}
 
 -- THE QUERIES
 
@@ -167,67 +149,46 @@ module _ (r : Raw) (ty : Typed r) (sd : isSound r ≡ true) (number n target : �
 
 -- WHAT THE CODE GIVES, by what it saw
 
--- staged is in its bounds
-pub ready : {t : D.Table} {staged : List ℕ} {i : ℕ} {s : Seen} {r : Record} {waits : Bool} → s ≡ At i r waits → SeenIn t staged s
-    → (t .«staged_used» ≤ length staged) × (length staged ≤ mostBytes)
-ready {t} {staged} v p =
-    let y = seen (p .sees) v in
-    let b = limits (lent t (p .queue) staged (p .sent)) (y .sound) in
-    (b .stagedUsed, b .stagedLong)
-
 module _ (n target : ℕ) (t : D.Table) (s : Seen) (staged : List ℕ) where
-  -- the call, whose last step is the change
-  pub whole : (d : Effect) (after queue sent : List ℕ) (number : ℕ) {x : D.Table} → Adjusts n target t s staged d after → Sees t queue staged sent number s → x ≡ applied t (d .change)
-      → outcome (A.charged (d .answer)) x queue after sent ≡ called (lent t queue staged sent) (act (adjust number n target))
-  unfolding N.Adjusts
-  whole d after queue sent number f z p = ap (λ y. outcome (A.charged (d .answer)) y queue after sent) p ∙ (f queue sent number z) .1
-
   -- nothing changes
-  refusing : (k : Refusal) {d : Effect} {c : Change} → d ≡ record { answer = Refused k; change = c } → c ≡ keptOf t
-      → ((queue sent : List ℕ) (number : ℕ) → Sees t queue staged sent number s
-      → called (lent t queue staged sent) (act (adjust number n target)) ≡ record { answer = refusal k; state = lent t queue staged sent })
-      → Adjusts n target t s staged d staged
-  unfolding N.Adjusts A.charged
-  refusing k p q f = rw (p, q) (λ queue sent number z. (record { place = omega arith; slot = omega arith }, refusal-is (lent t queue staged sent) refl (all-kept t) ∙ sym (f queue sent number z)))
+  refused : (k : Refusal) {d : Effect} {c : Change} → d ≡ record { answer = Refused k; change = c } → Gives t s staged staged c (refusal k) (λ m. adjust m n target)
+      → Gives t s staged staged (d .change) (A.charged (d .answer)) (λ m. adjust m n target)
+  unfolding A.charged
+  refused k p g = rw p g
 
-  pub refused-unsound : {d : Effect} {c : Change} → s ≡ Unsound → d ≡ record { answer = Refused Refusal.State; change = c } → c ≡ keptOf t → Adjusts n target t s staged d staged
-  refused-unsound v p q = refusing Refusal.State p q (λ queue sent number z. unsound z v (act (adjust number n target)))
+  pub refused-unsound : {d : Effect} {c : Change} → s ≡ Unsound → d ≡ record { answer = Refused Refusal.State; change = c } → c ≡ keptOf t
+      → Gives t s staged staged (d .change) (A.charged (d .answer)) (λ m. adjust m n target)
+  refused-unsound v p q = refused Refusal.State p (refusing-unsound t s staged (λ m. adjust m n target) v q)
 
-  pub refused-unknown : {d : Effect} {c : Change} → s ≡ Unknown → d ≡ record { answer = Refused Refusal.Unknown; change = c } → c ≡ keptOf t → Adjusts n target t s staged d staged
-  refused-unknown v p q = refusing Refusal.Unknown p q (λ queue sent number z. let y = none z v in unknown-is (lent t queue staged sent) (z .typed) (y .0) number n target (y .1))
+  pub refused-unknown : {d : Effect} {c : Change} → s ≡ Unknown → d ≡ record { answer = Refused Refusal.Unknown; change = c } → c ≡ keptOf t
+      → Gives t s staged staged (d .change) (A.charged (d .answer)) (λ m. adjust m n target)
+  refused-unknown v p q =
+      refused Refusal.Unknown p
+      (refusing t s staged (λ m. adjust m n target) Refusal.Unknown q (λ queue sent number z. let y = none z v in unknown-is (lent t queue staged sent) (z .typed) (y .0) number n target (y .1)))
 
   module _ (i : ℕ) (r : Record) (waits : Bool) (v : s ≡ At i r waits) (window : ℕ) (w : window ≡ charged n (r .«sender_window_size»)) where
     pub stopped : {k : Refusal} {d : Effect} {c : Change} → Stops (r .confirmed) window target (t .«staged_used») (length staged) k → d ≡ record { answer = Refused k; change = c } → c ≡ keptOf t
-        → Adjusts n target t s staged d staged
+        → Gives t s staged staged (d .change) (A.charged (d .answer)) (λ m. adjust m n target)
     stopped {k} x p q =
-        refusing k p q
+        refused k p
+        (refusing t s staged (λ m. adjust m n target) k q
         (λ queue sent number z. let y = seen z v in
-        stopped-is (lent t queue staged sent) (z .typed) (y .sound) number n target i (y .held) window (rw (y .record-is) at w) (rw (y .record-is) at x))
-
-    -- another record, and count and bytes of staged
-    going : (x : Record) (b : Bool) (m : ℕ) (after : List ℕ)
-        → ((queue sent : List ℕ) (number : ℕ) → SeenAt t queue staged sent number i r waits → Typed (lent t queue staged sent)
-        → called (lent t queue staged sent) (act (adjust number n target)) ≡ outcome (gave (adjusted b)) (counted (recordSet t i x) m (t .«sent_used»)) queue after sent)
-        → Adjusts n target t s staged (record { answer = Adjusted b; change = recorded (keptOf t) (t .last) (t .used) i x m }) after
-    unfolding N.Adjusts A.charged
-    going x b m after f queue sent number z =
-        let y = seen z v in (
-          record { place = y .held .place; slot = omega arith },
-          ap (λ u. outcome (gave (adjusted b)) u queue after sent) (recorded-is t (t .last) (t .used) i x m) ∙ sym (f queue sent number y (z .typed)),
-        )
+        stopped-is (lent t queue staged sent) (z .typed) (y .sound) number n target i (y .held) window (rw (y .record-is) at w) (rw (y .record-is) at x)))
 
     pub kept : {c : Change} {x : Record} → (r .confirmed ≡ true) × (target / 2 ≤ window) → c ≡ keptOf t → x ≡ withWindow r window
-        → Adjusts n target t s staged (record { answer = Adjusted false; change = recorded c (c .last) (c .used) i x (c .«staged_used») }) staged
+        → Gives t s staged staged (recorded c (c .last) (c .used) i x (c .«staged_used»)) (A.charged (Adjusted false)) (λ m. adjust m n target)
+    unfolding A.charged
     kept f q e =
         rw (q, e)
-        (going (withWindow r window) false (t .«staged_used») staged
+        (going t s staged (λ m. adjust m n target) v (gave (adjusted false)) (withWindow r window) (t .used) (t .«staged_used») staged
         (λ queue sent number y ty. rw (y .record-is) (kept-is (lent t queue staged sent) ty (y .sound) number n target i (y .held) window (rw (y .record-is) at w) (rw (y .record-is) at (f .0)) (f .1))))
 
     pub filled : {c : Change} {x : Record} {after : List ℕ} → (r .confirmed ≡ true) × (window < target / 2) × (t .«staged_used» + 13 ≤ length staged) → c ≡ keptOf t → x ≡ withWindow r target
         → after ≡ write (t .«staged_used») (frame (adjustMessage (peerOf r) (target - window))) staged
-        → Adjusts n target t s staged (record { answer = Adjusted true; change = recorded c (c .last) (c .used) i x (t .«staged_used» + 13) }) after
+        → Gives t s staged after (recorded c (c .last) (c .used) i x (t .«staged_used» + 13)) (A.charged (Adjusted true)) (λ m. adjust m n target)
+    unfolding A.charged
     filled f q e o =
         rw (q, e, o)
-        (going (withWindow r target) true (t .«staged_used» + 13) (write (t .«staged_used») (frame (adjustMessage (peerOf r) (target - window))) staged)
+        (going t s staged (λ m. adjust m n target) v (gave (adjusted true)) (withWindow r target) (t .used) (t .«staged_used» + 13) (write (t .«staged_used») (frame (adjustMessage (peerOf r) (target - window))) staged)
         (λ queue sent number y ty.
         rw (y .record-is) (filled-is (lent t queue staged sent) ty (y .sound) number n target i (y .held) window (rw (y .record-is) at w) (rw (y .record-is) at (f .0)) (f .1) (f .2))))

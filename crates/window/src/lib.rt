@@ -21,7 +21,8 @@ ghost use Rattle.channel.specs.Change.{withWindow};
 ghost use Rattle.channel.specs.Decide as D;
 ghost use Rattle.channel.specs.Called.{lent, outcome, called};
 ghost use Rattle.channel.specs.Answers.{charged, windowSize, pendingData};
-ghost use Rattle.window.specs.Adjusts.{Planned, SeenIn, Adjusts};
+ghost use Rattle.soundness.specs.Sees.{SeenIn, Gives};
+ghost use Rattle.window.specs.Adjusts.{Planned};
 
 // The table after the call, and the answer. The table stands first: behind the two bytes of the answer it is copied once more.
 pub struct Adjustment {
@@ -88,7 +89,7 @@ fn refused(c: Change, k: Refusal) -> Effect
 // The call by what was seen of the channel.
 fn adjust(t: Table, seen: Seen, staged: &mut [u8], n: u32, target: u32) -> Effect
     requires { ⌜ SeenIn t (now staged) seen ⌝ }
-    ensures { λ d. ⌜ Adjusts n target t seen (now (staged .entry)) d (now (staged .exit)) ⌝ }
+    ensures { λ d. ⌜ Gives t seen (now (staged .entry)) (now (staged .exit)) (d .change) (charged (d .answer)) (λ m. adjust m n target) ⌝ }
 {
     let c = kept(t);
     match seen {

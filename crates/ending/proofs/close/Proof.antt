@@ -1,8 +1,8 @@
 -- What was seen is of this state, so the private function's promise is the call's.
 -- Assumes nothing.
 use borrow.Author.Needs.{needs}
-use Rattle.ending.specs.Ends as N
-use Rattle.ending.proofs.Ways as W
+use Rattle.soundness.specs.Sees as S
+use Rattle.soundness.proofs.Told.{whole}
 use Rattle.ending.proofs.close.Statement.{statement}
 use Rattle.ending.proofs.close.Tie as tie
 
@@ -13,14 +13,14 @@ end-with-requires : tie.Need-end-with-requires
 end-with-requires c κs = search needs
 
 changed-requires : tie.Need-changed-requires
-unfolding N.Ends
+unfolding S.Gives
 changed-requires c κs = (c .before .before .end-with .ensures _ _ _ (c .before .before .before .before .see .ensures)) .0
 
 same-length : tie.Need-same-length
 same-length c = search needs
 
 returns : tie.Need-returns
-returns c = W.whole _ _ _ _ _ _ _ _ _ (c .before .before .before .end-with .ensures) (c .before .before .before .before .before .see .ensures) (c .changed .ensures)
+returns c = whole _ _ _ _ _ _ _ _ _ _ (c .before .before .before .end-with .ensures) (c .before .before .before .before .before .see .ensures) (c .changed .ensures)
 
 pub close-spec : {M : Type 1} → statement M
 close-spec = tie.close (tie.spec see-requires end-with-requires changed-requires same-length returns)

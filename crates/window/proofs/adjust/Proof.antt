@@ -2,6 +2,7 @@
 -- Assumes nothing.
 use native.Mathlib.Omega.{arith}
 use borrow.Author.Needs.{needs}
+use Rattle.soundness.proofs.Told.{ready}
 use Rattle.window.proofs.Ways as W
 use Rattle.window.proofs.adjust.Statement.{statement}
 use Rattle.window.proofs.adjust.Tie as tie
@@ -28,7 +29,7 @@ charge-requires : tie.Need-charge-requires
 charge-requires c κs = search needs
 
 decide-requires : tie.Need-decide-requires
-decide-requires c κs = let f = W.ready (c .before .before .seen .given .1) (c .before .before .before .before .before .before .pre) in omega arith
+decide-requires c κs = let f = ready (c .before .before .seen .given .1) (c .before .before .before .before .before .before .pre) in omega arith
 
 enum-known-p : tie.Need-enum-known-p
 enum-known-p c = search needs
@@ -57,7 +58,7 @@ with-window-requires-2 c κs = search needs
 add-next : tie.Need-add-next
 add-next c =
     let d = c .before .before .before .before .before .before .before .before in
-    let f = W.ready (d .before .before .before .seen .given .1) (d .before .before .before .before .before .before .before .pre) in
+    let f = ready (d .before .before .before .seen .given .1) (d .before .before .before .before .before .before .before .pre) in
     omega (arith, (rw (c .before .before .before .before .before .before .enum-told4 .given .1) at (d .decide .ensures)) .2)
 
 returns : tie.Need-returns

@@ -3,6 +3,7 @@
 use mathlib.Core.Path.{sym}
 use borrow.Author.Needs.{needs}
 use Rattle.channel.specs.Answers as A
+use Rattle.soundness.proofs.Told.{unsound}
 use Rattle.window.proofs.Ways as W
 use Rattle.window.proofs.sender_window_size.Statement.{statement}
 use Rattle.window.proofs.sender_window_size.Tie as tie
@@ -21,7 +22,7 @@ enum-known-seen c = search needs
 
 returns : tie.Need-returns
 unfolding A.windowSize
-returns c = sym (W.unsound (c .before .before .see .ensures) (c .enum-told .given .1) _)
+returns c = sym (unsound (c .before .before .see .ensures) (c .enum-told .given .1) _)
 
 returns-2 : tie.Need-returns-2
 unfolding A.windowSize
