@@ -1,13 +1,12 @@
 -- EOF and CLOSE over the code's state: a law for each way out, over either message.
 -- Assumes nothing.
-use Prim.Native.Nat.{ℕ, _+_, _≤_, _<_}
+use Prim.Native.Nat.{ℕ, _+_, _≤_}
 use mathlib.Core.Path.{_≡_, refl, sym, ap, _∙_}
 use mathlib.Core.Bool.{Bool, true, false}
 use mathlib.Core.List.{List, [], _∷_}
 use lib.ListN.{length, set}
 use lib.Seq.{set-getD}
 use native.Mathlib.Omega.{arith}
-use Rattle.laws.specs.Bits.{bit}
 use Rattle.octets.specs.Buf.{write}
 use Rattle.channel.specs.declared.Record.{Record}
 use Rattle.channel.specs.declared.Table as D
@@ -15,7 +14,7 @@ use Rattle.channel.specs.declared.Acted.the-variants.{Done, Refused}
 use Rattle.channel.specs.declared.Refusal.{Refusal}
 use Rattle.channel.specs.declared.Refusal.the-variants as Refusal
 use Rattle.channel.specs.Wire.{frame, frames}
-use Rattle.channel.specs.State.{placeCount, mostBytes, Table, numberOf, peerOf, nowhere, look, anyEntry}
+use Rattle.channel.specs.State.{Table, numberOf, peerOf, nowhere, look, anyEntry}
 use Rattle.channel.specs.Call.{Call, act, done, gave}
 use Rattle.channel.specs.Change.{altered, removed}
 use Rattle.channel.specs.Decide.{Decision, quiet, staging, passing, serves, eofOn, closeOn, decide}
@@ -28,7 +27,7 @@ use Rattle.channel.specs.Answers.{acted, refusal}
 use Rattle.channel.specs.Answers as A
 use Rattle.lookup.specs.declared.Change.{Change}
 use Rattle.lookup.specs.Held.{HeldAt, recordAt}
-use Rattle.lookup.specs.Update.{placed, counted, recordSet, stagedMore}
+use Rattle.lookup.specs.Update.{placed, recordSet, stagedMore}
 use Rattle.lookup.specs.Changed.{keptOf}
 use Rattle.lookup.proofs.Bridge.{Put}
 use Rattle.lookup.proofs.Framed.{put-frame}

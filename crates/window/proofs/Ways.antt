@@ -1,7 +1,7 @@
 -- The receive window and the queries over the code's state: a law for each way out.
 -- Assumes nothing.
 use Prim.Native.Nat.{ℕ, _+_, _-_, _/_, _≤_, _<_}
-use mathlib.Core.Path.{_≡_, refl, sym, ap, _∙_}
+use mathlib.Core.Path.{_≡_, sym, ap, _∙_}
 use mathlib.Core.Bool.{Bool, true, false}
 use mathlib.Core.List.{List, [], _∷_}
 use lib.ListN.{length}
@@ -15,8 +15,8 @@ use Rattle.channel.specs.declared.Charged.the-variants.{Adjusted, Refused}
 use Rattle.channel.specs.declared.Refusal.{Refusal}
 use Rattle.channel.specs.declared.Refusal.the-variants as Refusal
 use Rattle.channel.specs.Wire.{frame, frames, adjustMessage}
-use Rattle.channel.specs.State.{mostBytes, Table, peerOf, nowhere, look, anyEntry}
-use Rattle.channel.specs.Call.{Call, act, adjust, windowOf, hasPending, adjusted, windowIs, pendingIs, gave}
+use Rattle.channel.specs.State.{Table, peerOf, nowhere, look, anyEntry}
+use Rattle.channel.specs.Call.{act, adjust, windowOf, hasPending, adjusted, windowIs, pendingIs, gave}
 use Rattle.channel.specs.Change.{altered, withWindow}
 use Rattle.channel.specs.Decide.{quiet, staging, serves, charged, adjustOn, windowAt, decide}
 use Rattle.channel.specs.Decide as I
@@ -31,7 +31,7 @@ use Rattle.channel.proofs.Sound.{none-own}
 use Rattle.channel.proofs.Faithful.{sound-meaning}
 use Rattle.lookup.specs.declared.Change.{Change}
 use Rattle.lookup.specs.Held.{HeldAt, recordAt}
-use Rattle.lookup.specs.Update.{counted, recordSet, stagedMore}
+use Rattle.lookup.specs.Update.{recordSet, stagedMore}
 use Rattle.lookup.specs.Changed.{keptOf}
 use Rattle.lookup.proofs.Framed.{put-frame}
 use Rattle.lookup.proofs.Decided.{if-true, if-false, serves-is, has-is, none-look, none-used, none-passes, held-look, held-fails, held-passes, by-act}

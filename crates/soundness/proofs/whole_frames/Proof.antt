@@ -2,7 +2,7 @@
 -- Assumes nothing.
 use Prim.Native.Nat.{_-_, _≤_, _<_}
 use mathlib.Core.Path.{_≡_, refl, sym, ap, _∙_}
-use lib.ListN.{length, take, drop, drop-of-length-le}
+use lib.ListN.{take, drop, drop-of-length-le}
 use lib.Seq.{length-take-le, drop-drop}
 use native.Mathlib.Omega.{arith}
 use Rattle.channel.specs.Sound.{wholeFrames}
