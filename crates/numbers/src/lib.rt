@@ -6,23 +6,26 @@ use channel::Picked;
 use channel::Record;
 use channel::Refusal;
 use channel::Table;
-use lookup::Found;
-use lookup::find;
+use lookup::Change;
+use lookup::changed;
+use lookup::kept;
+use lookup::mark;
 use lookup::place_has;
-use lookup::take_place;
-use lookup::with_last;
+use soundness::Seen;
+use soundness::see;
 use soundness::sound;
 ghost use mathlib.Core.Path.{_≡_};
-ghost use mathlib.Core.Bool.{not};
-ghost use Prim.Native.Nat.{ℕ, _<_};
+ghost use mathlib.Core.Bool.{Bool, not};
 ghost use Rattle.laws.specs.Bits.{bit};
 ghost use Rattle.laws.specs.Lowest.{lowest};
+ghost use Rattle.channel.specs.declared.Acted.the-variants as Acted;
+ghost use Rattle.channel.specs.declared.Picked.the-variants as Picked;
 ghost use Rattle.channel.specs.State.{placeCount};
 ghost use Rattle.channel.specs.Call.{act, newChannel, newChannelId, openForPeer};
 ghost use Rattle.channel.specs.Change.{fresh, confirm};
 ghost use Rattle.channel.specs.Called.{called, lent, outcome};
 ghost use Rattle.channel.specs.Answers.{acted, picked};
-ghost use Rattle.numbers.specs.Picks.{pickOf, Frees};
+ghost use Rattle.numbers.specs.Picks.{pickOf, Frees, Turns, Gives, Settles};
 
 // What `new_channel` and `new_channel_id` leave.
 pub struct Opened {
@@ -30,16 +33,35 @@ pub struct Opened {
     pub table: Table,
 }
 
-// What `open_for_peer` leaves.
+// What `open_for_peer` leaves. The table stands first: behind the two bytes of the answer it is copied once more.
 pub struct PeerOpened {
-    pub answer: Acted,
     pub table: Table,
+    pub answer: Acted,
+}
+
+// The answer of `new_channel` or `new_channel_id`, and the change to the table.
+struct Effect {
+    answer: Picked,
+    change: Change,
+}
+
+// The same of `open_for_peer`.
+struct PeerEffect {
+    answer: Acted,
+    change: Change,
 }
 
 // The lowest free place, if there is one.
 enum Free {
     Place(usize),
     Full,
+}
+
+// What a call for a new number finds: that the state is not sound, that no place is free, or the place and the number to take.
+enum Turn {
+    Unsound,
+    Full,
+    Take(usize, ChannelId),
 }
 
 // The lowest free place, or 32: the trailing zeros of the complement of the word of used marks.
@@ -118,6 +140,112 @@ fn peer_record(
     }
 }
 
+// The lowest free place and the next number, if the state is sound.
+fn next_turn(t: Table, is_sound: bool) -> Turn
+    ensures { λ u. ⌜ Turns t «is_sound» u ⌝ }
+{
+    if is_sound {
+        let free = free_place(t.used);
+        match free {
+            Free::Place(at) => {
+                let n = pick(t);
+                Turn::Take(at, n)
+            }
+            Free::Full => Turn::Full,
+        }
+    } else {
+        Turn::Unsound
+    }
+}
+
+// A refusal, which changes nothing.
+fn refused(c: Change, k: Refusal) -> Effect
+    ensures { λ d. ⌜ d ≡ record { answer = Picked.Refused k; change = c } ⌝ }
+{
+    Effect {
+        answer: Picked::Refused(k),
+        change: c,
+    }
+}
+
+// The same of `open_for_peer`.
+fn peer_refused(c: Change, k: Refusal) -> PeerEffect
+    ensures { λ d. ⌜ d ≡ record { answer = Acted.Refused k; change = c } ⌝ }
+{
+    PeerEffect {
+        answer: Acted::Refused(k),
+        change: c,
+    }
+}
+
+// The number taken, and a record opened under it.
+fn open_next(t: Table, turn: Turn, window_size: u32, maxpacket: u32) -> Effect
+    requires { ⌜ ((b : Bool) × Turns t b turn) ⌝ }
+    ensures { λ d. ⌜ Gives (newChannel «window_size» maxpacket) t turn d ⌝ }
+{
+    let c = kept(t);
+    match turn {
+        Turn::Unsound => refused(c, Refusal::State),
+        Turn::Full => refused(c, Refusal::Room),
+        Turn::Take(at, n) => {
+            let mut next = c;
+            next.last = n.0;
+            next.used = mark(t.used, at);
+            next.at = at;
+            next.params = fresh_record(n, window_size, maxpacket);
+            Effect {
+                answer: Picked::Number(n),
+                change: next,
+            }
+        }
+    }
+}
+
+// The number taken, and nothing opened.
+fn name_next(t: Table, turn: Turn) -> Effect
+    ensures { λ d. ⌜ Gives newChannelId t turn d ⌝ }
+{
+    let mut next = kept(t);
+    match turn {
+        Turn::Unsound => refused(next, Refusal::State),
+        Turn::Full => refused(next, Refusal::Room),
+        Turn::Take(_, n) => {
+            next.last = n.0;
+            Effect {
+                answer: Picked::Number(n),
+                change: next,
+            }
+        }
+    }
+}
+
+// The record of a number that was looked for goes into the lowest free place.
+fn settle(t: Table, seen: Seen, r: Record) -> PeerEffect
+    ensures { λ d. ⌜ Settles t seen r d ⌝ }
+{
+    let c = kept(t);
+    match seen {
+        Seen::Unsound => peer_refused(c, Refusal::State),
+        Seen::At(_, _, _) => peer_refused(c, Refusal::Already),
+        Seen::Unknown => {
+            let free = free_place(t.used);
+            match free {
+                Free::Place(at) => {
+                    let mut next = c;
+                    next.used = mark(t.used, at);
+                    next.at = at;
+                    next.params = r;
+                    PeerEffect {
+                        answer: Acted::Done,
+                        change: next,
+                    }
+                }
+                Free::Full => peer_refused(c, Refusal::Room),
+            }
+        }
+    }
+}
+
 // Opens a record at the first number after the last that is not in the table.
 pub fn new_channel(
     t: Table,
@@ -132,28 +260,13 @@ pub fn new_channel(
         ≡ called (lent t (now (queue .entry)) (now (staged .entry)) (now (sent .entry))) (act (newChannel «window_size» maxpacket))
         ⌝ }
 {
-    if sound(t, queue, staged, sent) {
-        let free = free_place(t.used);
-        match free {
-            Free::Place(at) => {
-                let n = pick(t);
-                let opened = take_place(t, at, fresh_record(n, window_size, maxpacket));
-                let next = with_last(opened, n);
-                Opened {
-                    answer: Picked::Number(n),
-                    table: next,
-                }
-            }
-            Free::Full => Opened {
-                answer: Picked::Refused(Refusal::Room),
-                table: t,
-            },
-        }
-    } else {
-        Opened {
-            answer: Picked::Refused(Refusal::State),
-            table: t,
-        }
+    let is_sound = sound(t, queue, staged, sent);
+    let turn = next_turn(t, is_sound);
+    let done = open_next(t, turn, window_size, maxpacket);
+    let answer = done.answer;
+    Opened {
+        answer,
+        table: changed(t, done.change),
     }
 }
 
@@ -164,27 +277,13 @@ pub fn new_channel_id(t: Table, queue: &[u8], staged: &[u8], sent: &[u8]) -> Ope
         ≡ called (lent t (now (queue .entry)) (now (staged .entry)) (now (sent .entry))) (act newChannelId)
         ⌝ }
 {
-    if sound(t, queue, staged, sent) {
-        let free = free_place(t.used);
-        match free {
-            Free::Place(_) => {
-                let n = pick(t);
-                let next = with_last(t, n);
-                Opened {
-                    answer: Picked::Number(n),
-                    table: next,
-                }
-            }
-            Free::Full => Opened {
-                answer: Picked::Refused(Refusal::Room),
-                table: t,
-            },
-        }
-    } else {
-        Opened {
-            answer: Picked::Refused(Refusal::State),
-            table: t,
-        }
+    let is_sound = sound(t, queue, staged, sent);
+    let turn = next_turn(t, is_sound);
+    let done = name_next(t, turn);
+    let answer = done.answer;
+    Opened {
+        answer,
+        table: changed(t, done.change),
     }
 }
 
@@ -206,33 +305,12 @@ pub fn open_for_peer(
         ≡ called (lent t (now (queue .entry)) (now (staged .entry)) (now (sent .entry))) (act (openForPeer (n .0) (peer .0) «window_size» maxpacket «peer_window» «peer_maxpacket»))
         ⌝ }
 {
-    if sound(t, queue, staged, sent) {
-        let here = find(t, n);
-        if let Found::At(_) = here {
-            return PeerOpened {
-                answer: Acted::Refused(Refusal::Already),
-                table: t,
-            };
-        }
-        let free = free_place(t.used);
-        match free {
-            Free::Place(at) => {
-                let r = peer_record(n, peer, window_size, maxpacket, peer_window, peer_maxpacket);
-                let next = take_place(t, at, r);
-                PeerOpened {
-                    answer: Acted::Done,
-                    table: next,
-                }
-            }
-            Free::Full => PeerOpened {
-                answer: Acted::Refused(Refusal::Room),
-                table: t,
-            },
-        }
-    } else {
-        PeerOpened {
-            answer: Acted::Refused(Refusal::State),
-            table: t,
-        }
+    let seen = see(t, queue, staged, sent, n);
+    let r = peer_record(n, peer, window_size, maxpacket, peer_window, peer_maxpacket);
+    let done = settle(t, seen, r);
+    let answer = done.answer;
+    PeerOpened {
+        table: changed(t, done.change),
+        answer,
     }
 }

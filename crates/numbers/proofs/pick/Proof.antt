@@ -1,7 +1,7 @@
 -- `numbers::pick` meets its contract. The outer loop: the number to pick is the first free one from the number tried on, which comes one
 -- nearer with each turn. The inner loop: whether the number tried is used is told by the places from i on.
 -- Assumes nothing.
-use Prim.Native.Nat.{ℕ, _+_, _-_, _≤_, _<_}
+use Prim.Native.Nat.{_-_, _≤_, _<_}
 use mathlib.Core.Path.{_≡_, refl, sym, ap, _∙_}
 use mathlib.Core.Bool.{true, false}
 use lib.ListN.{length, drop, length-map}
