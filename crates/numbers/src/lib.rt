@@ -12,8 +12,8 @@ use lookup::kept;
 use lookup::mark;
 use lookup::place_has;
 use soundness::Seen;
+use soundness::is_sound;
 use soundness::see;
-use soundness::sound;
 ghost use mathlib.Core.Path.{_≡_};
 ghost use mathlib.Core.Bool.{Bool, not};
 ghost use Rattle.laws.specs.Bits.{bit};
@@ -141,10 +141,10 @@ fn peer_record(
 }
 
 // The lowest free place and the next number, if the state is sound.
-fn next_turn(t: Table, is_sound: bool) -> Turn
-    ensures { λ u. ⌜ Turns t «is_sound» u ⌝ }
+fn next_turn(t: Table, sound: bool) -> Turn
+    ensures { λ u. ⌜ Turns t sound u ⌝ }
 {
-    if is_sound {
+    if sound {
         let free = free_place(t.used);
         match free {
             Free::Place(at) => {
@@ -260,8 +260,8 @@ pub fn new_channel(
         ≡ called (lent t (now (queue .entry)) (now (staged .entry)) (now (sent .entry))) (act (newChannel «window_size» maxpacket))
         ⌝ }
 {
-    let is_sound = sound(t, queue, staged, sent);
-    let turn = next_turn(t, is_sound);
+    let seen = see(t, queue, staged, sent, ChannelId(0));
+    let turn = next_turn(t, is_sound(seen));
     let done = open_next(t, turn, window_size, maxpacket);
     let answer = done.answer;
     Opened {
@@ -277,8 +277,8 @@ pub fn new_channel_id(t: Table, queue: &[u8], staged: &[u8], sent: &[u8]) -> Ope
         ≡ called (lent t (now (queue .entry)) (now (staged .entry)) (now (sent .entry))) (act newChannelId)
         ⌝ }
 {
-    let is_sound = sound(t, queue, staged, sent);
-    let turn = next_turn(t, is_sound);
+    let seen = see(t, queue, staged, sent, ChannelId(0));
+    let turn = next_turn(t, is_sound(seen));
     let done = name_next(t, turn);
     let answer = done.answer;
     Opened {
