@@ -16,35 +16,33 @@ use Rattle.channel.specs.declared.Adjust.{Adjust}
 use Rattle.channel.specs.declared.ChannelData.{ChannelData}
 use Rattle.channel.specs.declared.ChannelId.{ChannelId}
 use Rattle.channel.specs.declared.Refusal.{Refusal}
-use Rattle.channel.specs.declared.Refusal.the-variants.{Unconfirmed, Credit, Already, Malformed}
+use Rattle.channel.specs.declared.Refusal.the-variants.{Unconfirmed, Credit, Already}
 use Rattle.channel.specs.declared.Acted.the-variants.{Done}
 use Rattle.channel.specs.declared.Acted.the-variants as Acted
 use Rattle.channel.specs.declared.Taken.{Taken}
 use Rattle.channel.specs.declared.Taken.the-variants.{Took, Refused}
 use Rattle.channel.specs.State.{look, nowhere}
 use Rattle.channel.specs.Change.{confirm, withPeerWindow}
-use Rattle.channel.specs.Decide.{refuse, quiet, serves, takenIn, takenRead}
+use Rattle.channel.specs.Decide.{refuse, quiet, serves, takenIn}
 use Rattle.channel.specs.Decide as G
-use Rattle.channel.specs.Step.{step, apply}
-use Rattle.channel.specs.Raw.{Raw, placesOf, meaning}
-use Rattle.channel.specs.Read.{malformed, reads, readMessage}
-use Rattle.channel.specs.Sound.{isSound}
-use Rattle.channel.specs.Call.{act, incoming, message}
-use Rattle.channel.specs.Called.{Typed, called, lent, outcome}
+use Rattle.channel.specs.Step.{apply}
+use Rattle.channel.specs.Raw.{placesOf, meaning}
+use Rattle.channel.specs.Call.{message}
+use Rattle.channel.specs.Called.{lent, outcome}
 use Rattle.channel.specs.Answers.{refusalNumber, messageOf}
 use Rattle.channel.specs.Answers as A
-use Rattle.lookup.specs.Held.{HeldAt, recordAt}
+use Rattle.lookup.specs.Held.{recordAt}
 use Rattle.credit.specs.declared.Credited.{Credited}
 use Rattle.credit.specs.Credit.{fits, creditAnswer, creditRecord}
 use Rattle.lookup.specs.Update.{placed, recordSet}
 use Rattle.lookup.proofs.Changes.{records-kept}
-use Rattle.lookup.proofs.Decided.{if-true, if-false, serves-is, none-known, none-passes, held-known, held-fails, held-passes, by-act}
+use Rattle.lookup.proofs.Decided.{if-true, if-false, serves-is, none-known, none-passes, held-known, held-fails, held-passes}
 use Rattle.lookup.proofs.Branch.{refusing, same-is, recorded-is, freed-is}
 use Rattle.incoming.specs.Takes.{heardAt, heardSame, heardFreed, heardTable, tableLeft, queueLeft, toWhom, Here, Takes}
 
 -- NOTHING CHANGES
 
-same-table : (t : D.Table) (a : Taken) → heardTable t (heardSame t a) ≡ t
+pub same-table : (t : D.Table) (a : Taken) → heardTable t (heardSame t a) ≡ t
 same-table t a = ap (λ rs. placed t (t .last) (t .used) rs) (records-kept t)
 
 -- the message is refused
@@ -174,14 +172,3 @@ module _ (t : D.Table) (i : ℕ) (c : Record) where
       by-test (c .confirmed)
       (λ e. rw e (hands t (Eof n) (λ q st se. held-passes (lent t q st se) _ i (h .0) serves _ (serves-is _ ∙ alike (h .1) e))))
       (λ e. rw e (refuses t (Eof n) Unconfirmed (λ q st se. held-fails (lent t q st se) _ i (h .0) serves _ (serves-is _ ∙ alike (h .1) e))))
-
--- WHAT WAS READ
-
-module _ (r : Raw) (p : List ℕ) where
-  pub malformed-is : Typed r → isSound r ≡ true → malformed ≡ readMessage p → called r (act (incoming p)) ≡ record { answer = A.refusal Malformed; state = r }
-  unfolding G.decide G.takenRead A.refusal A.refusalNumber
-  malformed-is ty sd e = refusing r ty sd (act (incoming p)) false 7 (by-act r (incoming p) (ap (takenRead (meaning r .table)) (sym e)))
-
-  pub read-is : (m : M.Message) → reads (messageOf m) ≡ readMessage p → step (meaning r) (act (incoming p)) ≡ apply (meaning r) false (takenIn (meaning r .table) (messageOf m))
-  unfolding G.decide G.takenRead
-  read-is m e = by-act r (incoming p) (ap (takenRead (meaning r .table)) (sym e))

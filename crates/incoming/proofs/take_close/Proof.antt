@@ -1,51 +1,52 @@
+-- `incoming::take_close` meets its contract: each return cites the law for what was found (`Closing`).
+-- Assumes nothing.
+use native.Mathlib.Omega.{arith}
 use borrow.Author.Needs.{needs}
+use Rattle.lookup.proofs.Limits.{limits}
+use Rattle.incoming.proofs.Coming.{seen-at, here}
+use Rattle.incoming.proofs.Closing as K
 use Rattle.incoming.proofs.take_close.Statement.{statement}
 use Rattle.incoming.proofs.take_close.Tie as tie
-use Rattle.incoming.proofs.take_close.Reads as reads
-use Rattle.incoming.proofs.take_close.Lts as lts
-use Rattle.frames.proofs.put_close.Reads as put-close-reads
-use Rattle.incoming.proofs.freed.Reads as freed-reads
-use Rattle.incoming.proofs.refuse.Reads as refuse-reads
 
--- src/lib.rt:182:12
 add-if2 : tie.Need-add-if2
-add-if2 c = ?
+add-if2 c = let l = limits _ (seen-at (c .before .before .before .pre) .sound) in omega (arith, l .stagedUsed, l .stagedLong)
 
--- src/lib.rt:184:17
 freed-requires : tie.Need-freed-requires
-freed-requires c κs = ?
+freed-requires c κs = let h = here (c .before .before .before .before .pre) .0 in (h .place, h .used)
 
--- src/lib.rt:185:29
 add-h : tie.Need-add-h
 add-h c = search needs
 
--- src/lib.rt:188:13
 put-close-requires : tie.Need-put-close-requires
 put-close-requires c κs = search needs
 
--- src/lib.rt:189:13
 same-length : tie.Need-same-length
 same-length c = search needs
 
--- src/lib.rt:189:13
 returns : tie.Need-returns
-returns c = ?
+returns c =
+    let s = c .before .before .before .before .before .before .before .before .before in
+    let a = s .args in
+    rw (c .before .before .before .before .freed .ensures, c .before .before .put-close .ensures)
+    (K.took-97 (a .t) (a .n) (a .i) (a .c) (here (s .pre)) (c .before .before .before .before .before .before .before .if1 .taken) (a .staged .now) (a .waits) (seen-at (s .pre) .waits-is) (omega arith))
 
--- src/lib.rt:191:9
 refuse-requires : tie.Need-refuse-requires
 refuse-requires c κs = search needs
 
--- src/lib.rt:191:9
 returns-2 : tie.Need-returns-2
-returns-2 c = ?
+returns-2 c =
+    let s = c .before .before .before .before .before in
+    let a = s .args in
+    rw (c .refuse .ensures) (K.full-97 (a .t) (a .n) (a .i) (a .c) (here (s .pre)) (c .before .before .before .if1 .taken) (a .staged .now) (omega arith))
 
--- src/lib.rt:193:5
 refuse-requires-2 : tie.Need-refuse-requires-2
 refuse-requires-2 c κs = search needs
 
--- src/lib.rt:170:1
 returns-3 : tie.Need-returns-3
-returns-3 c = ?
+returns-3 c =
+    let s = c .before .before .before in
+    let a = s .args in
+    rw (c .refuse2 .ensures) (K.unconfirmed-97 (a .t) (a .n) (a .i) (a .c) (here (s .pre)) (c .before .if1 .left) (a .staged .now))
 
 pub take-close-spec : {M : Type 1} → statement M
 take-close-spec =
