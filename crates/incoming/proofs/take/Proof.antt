@@ -1,71 +1,66 @@
+-- `incoming::take` meets its contract: each return cites the law for what was seen and read (`Coming`).
+-- Assumes nothing.
 use borrow.Author.Needs.{needs}
+use Rattle.incoming.specs.Takes as T
+use Rattle.incoming.proofs.Coming as K
 use Rattle.incoming.proofs.take.Statement.{statement}
 use Rattle.incoming.proofs.take.Tie as tie
-use Rattle.incoming.proofs.take.Reads as reads
-use Rattle.incoming.proofs.take.Lts as lts
-use Rattle.incoming.proofs.refuse.Reads as refuse-reads
-use Rattle.incoming.proofs.take_in.Reads as take-in-reads
-use Rattle.incoming.proofs.unheard.Reads as unheard-reads
 
--- src/lib.rt:251:36
 enum-told : tie.Need-enum-told
 enum-told c = search needs
 
--- src/lib.rt:251:26
 refuse-requires : tie.Need-refuse-requires
 refuse-requires c κs = search needs
 
--- src/lib.rt:252:36
 enum-told-2 : tie.Need-enum-told-2
 enum-told-2 c = search needs
 
--- src/lib.rt:252:36
 unheard-requires : tie.Need-unheard-requires
 unheard-requires c κs = search needs
 
--- src/lib.rt:252:26
 refuse-requires-2 : tie.Need-refuse-requires-2
 refuse-requires-2 c κs = search needs
 
--- src/lib.rt:253:18
 enum-known-seen : tie.Need-enum-known-seen
 enum-known-seen c = search needs
 
--- src/lib.rt:254:42
 enum-told-3 : tie.Need-enum-told-3
 enum-told-3 c = search needs
 
--- src/lib.rt:254:32
 refuse-requires-3 : tie.Need-refuse-requires-3
 refuse-requires-3 c κs = search needs
 
--- src/lib.rt:255:25
 enum-known-read : tie.Need-enum-known-read
 enum-known-read c = search needs
 
--- src/lib.rt:255:31
 take-in-requires : tie.Need-take-in-requires
-take-in-requires c κs = ?
+unfolding T.readFor
+take-in-requires c κs =
+    let r = c .before .before in
+    let s = r .before .before .before in
+    rw (r .read .given .1, s .seen .given .1) at (s .before .before .before .pre)
 
--- src/lib.rt:246:1
 returns : tie.Need-returns
-returns c = ?
+returns c = let s = c .before .before .before .before in rw (c .refuse .ensures, c .before .enum-told .given .1) (K.state-is (s .args .t) (s .args .staged .now) (s .args .read))
 
--- src/lib.rt:246:1
 returns-2 : tie.Need-returns-2
-returns-2 c = ?
+returns-2 c =
+    let s = c .before .before .before .before .before in
+    rw (c .refuse2 .ensures, c .before .unheard .ensures, c .before .before .enum-told2 .given .1) (K.unknown-comes (s .args .t) (s .args .staged .now) (s .args .read))
 
--- src/lib.rt:246:1
 returns-3 : tie.Need-returns-3
-returns-3 c = ?
+returns-3 c =
+    let s = c .before .before .before .before .before .before .before in
+    rw (c .refuse3 .ensures, c .before .enum-told3 .given .1, c .before .before .before .before .seen .given .1) (K.malformed-comes (s .args .t) (s .args .staged .now) _ _ _)
 
--- src/lib.rt:246:1
 same-length : tie.Need-same-length
 same-length c = search needs
 
--- src/lib.rt:246:1
 returns-4 : tie.Need-returns-4
-returns-4 c = ?
+returns-4 c =
+    let r = c .before .before .before .before .before in
+    let s = r .before .before .before .before .before .before in
+    rw (r .read .given .1, r .before .before .before .seen .given .1) (K.taken-comes (s .args .t) (s .args .staged .now) _ _ _ _ _ _ (c .before .before .take-in .ensures))
 
 pub take-spec : {M : Type 1} → statement M
 take-spec =
