@@ -1,45 +1,51 @@
+-- `incoming::incoming` meets its contract: what was seen is of the channel that the payload is for, and `take` and `finish` say the rest.
+-- Assumes nothing.
+use Rattle.channel.specs.Raw.{Raw}
+use Rattle.channel.specs.Called.{lent}
+use Rattle.passes.proofs.Rows.{base-of}
+use Rattle.soundness.specs.Sees.{Sees}
+use Rattle.incoming.specs.Takes.{readFor}
 use borrow.Author.Needs.{needs}
 use Rattle.incoming.proofs.incoming.Statement.{statement}
 use Rattle.incoming.proofs.incoming.Tie as tie
-use Rattle.incoming.proofs.incoming.Reads as reads
-use Rattle.incoming.proofs.incoming.Lts as lts
-use Rattle.incoming.proofs.finish.Reads as finish-reads
-use Rattle.incoming.proofs.recipient.Reads as recipient-reads
-use Rattle.incoming.proofs.take.Reads as take-reads
-use Rattle.reading.proofs.read_message.Reads as read-message-reads
-use Rattle.soundness.proofs.see.Reads as see-reads
 
--- src/lib.rt:297:9
+abbrev state : tie.After-see → Raw
+state c = let a = c .before .before .before .before .before .before .before .before .before .args in lent (a .t) (a .queue .now) (a .staged .now) (a .sent .now)
+
+sees : (c : tie.After-see) → let r = state c in Sees (r .held) (r .queue) (r .staged) (r .sent) (readFor (c .before .before .before .before .read-message .result)) (c .see .result)
+sees c = rw (c .before .before .before .recipient .ensures) at (c .see .ensures)
+
 read-message-requires : tie.Need-read-message-requires
 read-message-requires c κs = search needs
 
--- src/lib.rt:298:9
 recipient-requires : tie.Need-recipient-requires
 recipient-requires c κs = search needs
 
--- src/lib.rt:299:9
 see-requires : tie.Need-see-requires
 see-requires c κs = search needs
 
--- src/lib.rt:300:9
 take-requires : tie.Need-take-requires
-take-requires c κs = ?
+take-requires c κs = record { queue = state (c .before) .queue; sent = state (c .before) .sent; sees = sees (c .before) }
 
--- src/lib.rt:302:9
 finish-requires : tie.Need-finish-requires
-finish-requires c κs = ?
+finish-requires c κs =
+    let k = c .before .before .before .take .ensures in
+    let s = c .before .before .before .before .before in
+    let r = state s in
+    (k .place, λ e. base-of r (sees s .typed) (k .sound (r .queue) (r .sent) (sees s) e))
 
--- src/lib.rt:287:1
 same-length : tie.Need-same-length
 same-length c = search needs
 
--- src/lib.rt:287:1
 same-length-2 : tie.Need-same-length-2
 same-length-2 c = search needs
 
--- src/lib.rt:287:1
 returns : tie.Need-returns
-returns c = ?
+returns c =
+    let f = c .before .before .finish .ensures in
+    let s = c .before .before .before .before .before .before .before .before in
+    let r = state s in
+    rw (f .0, f .1) (c .before .before .before .before .before .before .take .ensures .is (r .queue) (r .sent) _ (sees s) (s .before .before .before .before .read-message .ensures))
 
 pub incoming-spec : {M : Type 1} → statement M
 incoming-spec =
