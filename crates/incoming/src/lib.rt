@@ -209,8 +209,8 @@ fn take_in(
         Message::OpenConfirmation(x) => take_confirmation(t, i, c, x),
         Message::OpenFailure(x) => take_failure(t, i, c, x),
         Message::WindowAdjust(x) => take_credit(t, i, c, x),
-        Message::Data(x) => unchanged(t, hears(c, m)),
-        Message::Eof(n) => unchanged(t, hears(c, m)),
+        Message::Data(_) => unchanged(t, hears(c, m)),
+        Message::Eof(_) => unchanged(t, hears(c, m)),
         Message::Close(n) => take_close(t, staged, i, c, waits, n),
     }
 }
@@ -238,7 +238,7 @@ fn unheard(read: Read) -> Refusal
 {
     match read {
         Read::Malformed => Refusal::Malformed,
-        Read::Reads(m) => Refusal::Unknown,
+        Read::Reads(_) => Refusal::Unknown,
     }
 }
 

@@ -29,8 +29,8 @@ take-credit-requires : tie.Need-take-credit-requires
 unfolding T.toWhom
 take-credit-requires c κs = rw (c .before .m3 .given .1) at (here (c .before .before .before .before .pre))
 
-enum-known-m-4 : tie.Need-enum-known-m-4
-enum-known-m-4 c = search needs
+enum-told : tie.Need-enum-told
+enum-told c = search needs
 
 hears-requires : tie.Need-hears-requires
 hears-requires c κs = search needs
@@ -38,8 +38,8 @@ hears-requires c κs = search needs
 unchanged-requires : tie.Need-unchanged-requires
 unchanged-requires c κs = search needs
 
-enum-known-m-5 : tie.Need-enum-known-m-5
-enum-known-m-5 c = search needs
+enum-told-2 : tie.Need-enum-told-2
+enum-told-2 c = search needs
 
 hears-requires-2 : tie.Need-hears-requires-2
 hears-requires-2 c κs = search needs
@@ -47,12 +47,12 @@ hears-requires-2 c κs = search needs
 unchanged-requires-2 : tie.Need-unchanged-requires-2
 unchanged-requires-2 c κs = search needs
 
-enum-known-m-6 : tie.Need-enum-known-m-6
-enum-known-m-6 c = search needs
+enum-known-m-4 : tie.Need-enum-known-m-4
+enum-known-m-4 c = search needs
 
 take-close-requires : tie.Need-take-close-requires
 unfolding T.toWhom
-take-close-requires c κs = rw (c .before .before .m6 .given .1) at (c .before .before .before .before .before .pre)
+take-close-requires c κs = rw (c .before .before .m4 .given .1) at (c .before .before .before .before .before .pre)
 
 returns : tie.Need-returns
 returns c = rw (c .before .before .m .given .1) (c .take-confirmation .ensures (c .before .before .before .before .before .args .staged .now))
@@ -66,22 +66,22 @@ returns-3 c = rw (c .before .before .m3 .given .1) (c .take-credit .ensures (c .
 returns-4 : tie.Need-returns-4
 unfolding T.toWhom
 returns-4 c =
-    let s = c .before .before .before .before .before .before in
-    let e = c .before .before .before .m4 .given .1 in
+    let s = c .before .before .before .before .before in
+    let e = c .before .before .enum-told .given .1 in
     rw (c .unchanged .ensures, c .before .hears .ensures, e) (K.data-is (s .args .t) (s .args .i) (s .args .c) _ (rw e at (here (s .pre))) (s .args .staged .now))
 
 returns-5 : tie.Need-returns-5
 unfolding T.toWhom
 returns-5 c =
-    let s = c .before .before .before .before .before .before in
-    let e = c .before .before .before .m5 .given .1 in
+    let s = c .before .before .before .before .before in
+    let e = c .before .before .enum-told2 .given .1 in
     rw (c .unchanged2 .ensures, c .before .hears2 .ensures, e) (K.eof-is (s .args .t) (s .args .i) (s .args .c) _ (rw e at (here (s .pre))) (s .args .staged .now))
 
 same-length : tie.Need-same-length
 same-length c = search needs
 
 returns-6 : tie.Need-returns-6
-returns-6 c = rw (c .before .before .before .before .before .m6 .given .1) (c .before .before .take-close .ensures)
+returns-6 c = rw (c .before .before .before .before .before .m4 .given .1) (c .before .before .take-close .ensures)
 
 pub take-in-spec : {M : Type 1} → statement M
 take-in-spec =
@@ -93,13 +93,13 @@ take-in-spec =
     take-failure-requires
     enum-known-m-3
     take-credit-requires
-    enum-known-m-4
+    enum-told
     hears-requires
     unchanged-requires
-    enum-known-m-5
+    enum-told-2
     hears-requires-2
     unchanged-requires-2
-    enum-known-m-6
+    enum-known-m-4
     take-close-requires
     returns
     returns-2

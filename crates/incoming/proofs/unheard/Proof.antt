@@ -8,8 +8,8 @@ use Rattle.incoming.proofs.unheard.Tie as tie
 enum-told : tie.Need-enum-told
 enum-told c = search needs
 
-enum-known-read : tie.Need-enum-known-read
-enum-known-read c = search needs
+enum-told-2 : tie.Need-enum-told-2
+enum-told-2 c = search needs
 
 returns : tie.Need-returns
 unfolding T.unheardOf
@@ -17,7 +17,7 @@ returns c = rw (c .enum-told .given .1)
 
 returns-2 : tie.Need-returns-2
 unfolding T.unheardOf
-returns-2 c = rw (c .before .read .given .1)
+returns-2 c = rw (c .enum-told2 .given .1)
 
 pub unheard-spec : {M : Type 1} → statement M
-unheard-spec = tie.close (tie.spec enum-told enum-known-read returns returns-2)
+unheard-spec = tie.close (tie.spec enum-told enum-told-2 returns returns-2)
