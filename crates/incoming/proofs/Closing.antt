@@ -55,7 +55,7 @@ without-none n (e ∷ es) h = let z = or-neither (eqb (e .number) n) _ h in with
 
 -- what the CLOSE comes to
 abbrev pub heardClosed : D.Table → ChannelId → ℕ → Bool → Heard
-heardClosed t n i waits = record { answer = Took (Close n); used = t .used - 2 ^ i; at = i; params = zeroRecord; «staged_used» = t .«staged_used» + 9; drops = waits; number = n }
+heardClosed t n i waits = record { answer = Took (Close n); used = t .used - 2 ^ i; at = i; params = zeroRecord; «staged_used» = t .«staged_used» + 9; drops = waits; number = n .0 }
 
 module _ (t : D.Table) (n : ChannelId) (i : ℕ) (c : Record) (h : Here t (n .0) i c) where
   pub unconfirmed-97 : c .confirmed ≡ false → Takes t (Close n) (heardSame t (Refused Unconfirmed))
@@ -125,12 +125,12 @@ module _ (t : D.Table) (n : ChannelId) (i : ℕ) (c : Record) (h : Here t (n .0)
 -- WHERE ENTRIES GO, a compaction with a window of the whole queue keeps nothing of the channel
 module _ (t : D.Table) (q : List ℕ) (h : Heard) (e : h .drops ≡ true) (b : Base (t .entries) (t .«entry_count») q (t .«queue_used»)) where
   abbrev kept : List Entry
-  kept = keeps (h .number .0) true (t .«queue_used») (entriesOf (t .«entry_count») (t .entries) q)
+  kept = keeps (h .number) true (t .«queue_used») (entriesOf (t .«entry_count») (t .entries) q)
 
   pub table-dropped : (k : Kept) → k ≡ keptWith kept (t .«entry_count») (t .entries) → filed (heardTable t h) (k .entries) (k .count) (k .used) ≡ tableLeft t q h
   unfolding tableLeft
-  table-dropped k f = rw e (kept-table k (heardTable t h) _ _ refl (f ∙ ap (λ ks. keptWith ks (t .«entry_count») (t .entries)) (dropped-by t q b (h .number .0))))
+  table-dropped k f = rw e (kept-table k (heardTable t h) _ _ refl (f ∙ ap (λ ks. keptWith ks (t .«entry_count») (t .entries)) (dropped-by t q b (h .number))))
 
   pub queue-dropped : (q′ : List ℕ) → q′ ≡ queueWith kept (t .«queue_used») q → q′ ≡ queueLeft t q h
   unfolding queueLeft
-  queue-dropped q′ f = f ∙ rw e (ap (λ ks. queueWith ks (t .«queue_used») q) (dropped-by t q b (h .number .0)))
+  queue-dropped q′ f = f ∙ rw e (ap (λ ks. queueWith ks (t .«queue_used») q) (dropped-by t q b (h .number)))

@@ -36,7 +36,7 @@ use Rattle.incoming.specs.declared.Heard.{Heard}
 
 -- the record at place i is d
 abbrev pub heardAt : D.Table → Taken → ℕ → Record → Heard
-heardAt t a i d = record { answer = a; used = t .used; at = i; params = d; «staged_used» = t .«staged_used»; drops = false; number = record { 0 = 0 } }
+heardAt t a i d = record { answer = a; used = t .used; at = i; params = d; «staged_used» = t .«staged_used»; drops = false; number = 0 }
 
 -- nothing changes
 abbrev pub heardSame : D.Table → Taken → Heard
@@ -44,17 +44,17 @@ heardSame t a = heardAt t a 0 (recordAt t 0)
 
 -- place i is zero and free
 abbrev pub heardFreed : D.Table → Taken → ℕ → Heard
-heardFreed t a i = record { answer = a; used = t .used - 2 ^ i; at = i; params = zeroRecord; «staged_used» = t .«staged_used»; drops = false; number = record { 0 = 0 } }
+heardFreed t a i = record { answer = a; used = t .used - 2 ^ i; at = i; params = zeroRecord; «staged_used» = t .«staged_used»; drops = false; number = 0 }
 
 -- the table before any entry goes
 abbrev pub heardTable : D.Table → Heard → D.Table
 heardTable t h = counted (placed t (t .last) (h .used) (set (t .records) (h .at) (h .params))) (h .«staged_used») (t .«sent_used»)
 
 unfoldable pub tableLeft : D.Table → List ℕ → Heard → D.Table
-tableLeft t q h = cond (h .drops) (tableWith (without (h .number .0) (entriesIn t q)) (heardTable t h)) (heardTable t h)
+tableLeft t q h = cond (h .drops) (tableWith (without (h .number) (entriesIn t q)) (heardTable t h)) (heardTable t h)
 
 unfoldable pub queueLeft : D.Table → List ℕ → Heard → List ℕ
-queueLeft t q h = cond (h .drops) (queueWith (without (h .number .0) (entriesIn t q)) (t .«queue_used») q) q
+queueLeft t q h = cond (h .drops) (queueWith (without (h .number) (entriesIn t q)) (t .«queue_used») q) q
 
 -- WHOM IT IS FOR, and what was seen of that channel
 

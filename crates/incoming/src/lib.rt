@@ -20,13 +20,12 @@ use soundness::Seen;
 use soundness::see;
 ghost use mathlib.Core.Path.{_≡_};
 ghost use mathlib.Core.Bool.{true, cond};
-ghost use Prim.Native.Nat.{ℕ, _+_, _-_, _^_, _≤_, _<_};
+ghost use Prim.Native.Nat.{_<_};
 ghost use Rattle.laws.specs.Bits.{bit};
 ghost use Rattle.channel.specs.declared.Message.the-variants as M;
 ghost use Rattle.channel.specs.declared.Refusal.the-variants as R;
 ghost use Rattle.channel.specs.declared.Taken.the-variants as T;
 ghost use Rattle.channel.specs.State.{placeCount};
-ghost use Rattle.channel.specs.Raw.{zeroRecord};
 ghost use Rattle.channel.specs.Call.{act, incoming};
 ghost use Rattle.channel.specs.Change.{confirm};
 ghost use Rattle.channel.specs.Called.{lent, outcome, called};
@@ -44,7 +43,7 @@ struct Heard {
     params: Record,
     staged_used: usize,
     drops: bool,
-    number: ChannelId,
+    number: u32,
 }
 
 // What `incoming` leaves.
@@ -84,7 +83,7 @@ fn altered(t: Table, answer: Taken, i: usize, r: Record) -> Heard
         params: r,
         staged_used: t.staged_used,
         drops: false,
-        number: ChannelId(0),
+        number: 0,
     }
 }
 
@@ -167,14 +166,7 @@ fn hears(c: Record, m: Message) -> Taken
 
 // A 97 to a confirmed channel stages a CLOSE, 9 bytes; the record and the channel's entries go. The bytes are put last: a store into a
 // lent buffer between two uses of a table costs a copy of it.
-fn take_close(
-    t: Table,
-    staged: &mut [u8],
-    i: usize,
-    c: Record,
-    waits: bool,
-    n: ChannelId,
-) -> Heard
+fn take_close(t: Table, staged: &mut [u8], i: usize, c: Record, waits: bool, n: ChannelId) -> Heard
     requires { ⌜ Seeing t (now staged) (n .0) (S.At i c waits) ⌝ }
     ensures { λ h. ⌜ TakesWith t (now (staged .entry)) (M.Close n) h (now (staged .exit)) ⌝ }
 {
@@ -184,7 +176,7 @@ fn take_close(
             let mut h = freed(t, Taken::Took(Message::Close(n)), i);
             h.staged_used = at + 9;
             h.drops = waits;
-            h.number = n;
+            h.number = n.0;
             put_close(staged, at, c.recipient_channel);
             return h;
         }
@@ -194,14 +186,7 @@ fn take_close(
 }
 
 // A message to the record at place i, by its kind.
-fn take_in(
-    t: Table,
-    staged: &mut [u8],
-    i: usize,
-    c: Record,
-    waits: bool,
-    m: Message,
-) -> Heard
+fn take_in(t: Table, staged: &mut [u8], i: usize, c: Record, waits: bool, m: Message) -> Heard
     requires { ⌜ Seeing t (now staged) (toWhom m) (S.At i c waits) ⌝ }
     ensures { λ h. ⌜ TakesWith t (now (staged .entry)) m h (now (staged .exit)) ⌝ }
 {
@@ -273,7 +258,8 @@ fn finish(t: Table, queue: &mut [u8], h: Heard) -> Table
     if h.drops {
         let es = t.entries;
         let used = t.queue_used;
-        let k = compact(es, t.entry_count, queue, used, h.number, used);
+        let n = ChannelId(h.number);
+        let k = compact(es, t.entry_count, queue, used, n, used);
         let rest = k.entries;
         next.entries = rest;
         next.entry_count = k.count;

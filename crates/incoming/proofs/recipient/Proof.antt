@@ -1,6 +1,5 @@
 -- `incoming::recipient` meets its contract: the field of each kind of message.
 -- Assumes nothing.
-use mathlib.Core.Path.{refl}
 use borrow.Author.Needs.{needs}
 use Rattle.incoming.specs.Takes as T
 use Rattle.incoming.proofs.recipient.Statement.{statement}
