@@ -36,7 +36,7 @@ use Rattle.lookup.proofs.Framed.{put-frame}
 use Rattle.lookup.proofs.Decided.{if-true, if-false, serves-is, none-passes, held-fails, held-passes, held-has, by-act}
 use Rattle.lookup.proofs.Branch.{refusal-is}
 use Rattle.lookup.proofs.Branch as B
-use Rattle.lookup.proofs.Changes.{all-kept, recorded, recorded-is}
+use Rattle.lookup.proofs.Changes.{all-kept, kept-fits, recorded, recorded-is}
 use Rattle.soundness.specs.declared.Seen.{Seen}
 use Rattle.soundness.specs.declared.Seen.the-variants.{Unsound, Unknown, At}
 use Rattle.soundness.specs.Sees.{Sees, SeenAt}
@@ -161,7 +161,7 @@ module _ (e : Ending) (t : D.Table) (s : Seen) (staged : List ℕ) where
       → ((queue sent : List ℕ) (n : ℕ) → Sees t queue staged sent n s → called (lent t queue staged sent) (act (callOf e n)) ≡ record { answer = refusal k; state = lent t queue staged sent })
       → Ends e t s staged d staged
   unfolding N.Ends A.acted
-  refusing k p q f = rw (p, q) (λ queue sent n z. (record { place = omega arith; slot = omega arith }, refusal-is (lent t queue staged sent) refl (all-kept t) ∙ sym (f queue sent n z)))
+  refusing k p q f = rw (p, q) (λ queue sent n z. (kept-fits t, refusal-is (lent t queue staged sent) refl (all-kept t) ∙ sym (f queue sent n z)))
 
   pub unsound : {d : Effect} {c : Change} → s ≡ Unsound → d ≡ record { answer = Refused Refusal.State; change = c } → c ≡ keptOf t → Ends e t s staged d staged
   unfolding S.SeenAs A.refusal A.refusalNumber

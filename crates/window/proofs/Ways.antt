@@ -38,7 +38,7 @@ use Rattle.lookup.proofs.Framed.{put-frame}
 use Rattle.lookup.proofs.Decided.{if-true, if-false, serves-is, has-is, none-look, none-used, none-passes, held-look, held-fails, held-passes, by-act}
 use Rattle.lookup.proofs.Branch.{refusal-is}
 use Rattle.lookup.proofs.Branch as B
-use Rattle.lookup.proofs.Changes.{all-kept, recorded, recorded-is}
+use Rattle.lookup.proofs.Changes.{all-kept, kept-fits, recorded, recorded-is}
 use Rattle.soundness.specs.declared.Seen.{Seen}
 use Rattle.soundness.specs.declared.Seen.the-variants.{Unsound, Unknown, At}
 use Rattle.soundness.specs.Sees.{Sees, SeenAt}
@@ -188,7 +188,7 @@ module _ (n target : ℕ) (t : D.Table) (s : Seen) (staged : List ℕ) where
       → called (lent t queue staged sent) (act (adjust number n target)) ≡ record { answer = refusal k; state = lent t queue staged sent })
       → Adjusts n target t s staged d staged
   unfolding N.Adjusts A.charged
-  refusing k p q f = rw (p, q) (λ queue sent number z. (record { place = omega arith; slot = omega arith }, refusal-is (lent t queue staged sent) refl (all-kept t) ∙ sym (f queue sent number z)))
+  refusing k p q f = rw (p, q) (λ queue sent number z. (kept-fits t, refusal-is (lent t queue staged sent) refl (all-kept t) ∙ sym (f queue sent number z)))
 
   pub refused-unsound : {d : Effect} {c : Change} → s ≡ Unsound → d ≡ record { answer = Refused Refusal.State; change = c } → c ≡ keptOf t → Adjusts n target t s staged d staged
   refused-unsound v p q = refusing Refusal.State p q (λ queue sent number z. unsound z v (act (adjust number n target)))
