@@ -4,11 +4,12 @@ use Prim.Native.Nat.{ℕ}
 use mathlib.Core.Path.{_≡_}
 use lib.ListN.{getD, set}
 use lib.Seq.{set-getD}
+use native.Mathlib.Omega.{arith}
 use Rattle.channel.specs.declared.Record.{Record}
 use Rattle.channel.specs.declared.Table as D
 use Rattle.channel.specs.Raw.{zeroRecord, zeroEntry}
 use Rattle.lookup.specs.declared.Change.{Change}
-use Rattle.lookup.specs.Changed.{keptOf, applied}
+use Rattle.lookup.specs.Changed.{Fits, keptOf, applied}
 use Rattle.lookup.specs.Update.{placed, counted}
 
 pub records-kept : (t : D.Table) → set (t .records) 0 (getD (t .records) 0 zeroRecord) ≡ t .records
@@ -30,6 +31,9 @@ all-kept t j =
       «staged_used» = t .«staged_used»;
       «sent_used» = t .«sent_used»;
     }
+
+pub kept-fits : (t : D.Table) → Fits (keptOf t)
+kept-fits t = record { place = omega arith; slot = omega arith }
 
 -- the record at one place, and the numbers that go with it
 abbrev pub recorded : Change → ℕ → ℕ → ℕ → Record → ℕ → Change

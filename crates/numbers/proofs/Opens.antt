@@ -33,7 +33,7 @@ use Rattle.lookup.proofs.Bridge.{free-vacant, none-free}
 use Rattle.lookup.proofs.Decided.{if-true, if-false, by-act, none-used, held-used}
 use Rattle.lookup.proofs.Branch.{refusing, refusal-is, last-is, taken-is, taken-last-is}
 use Rattle.lookup.proofs.Branch as B
-use Rattle.lookup.proofs.Changes.{records-kept, all-kept, recorded, recorded-is}
+use Rattle.lookup.proofs.Changes.{records-kept, all-kept, kept-fits, recorded, recorded-is}
 use Rattle.soundness.specs.declared.Seen.{Seen}
 use Rattle.soundness.specs.declared.Seen.the-variants.{Unsound, Unknown, At}
 use Rattle.soundness.specs.Tested.{Tested}
@@ -106,7 +106,7 @@ module _ (a : Act) (t : T.Table) (u : Turn) where
   refuses k p q f =
       rw (p, q)
       (λ sound queue staged sent y z.
-      (record { place = omega arith; slot = omega arith }, refusal-is (lent t queue staged sent) refl (all-kept t) ∙ sym (f sound queue staged sent y z)))
+      (kept-fits t, refusal-is (lent t queue staged sent) refl (all-kept t) ∙ sym (f sound queue staged sent y z)))
 
   pub unsound : {d : Effect} {c : Change} → u ≡ Turn.Unsound → d ≡ record { answer = Picked.Refused Refusal.State; change = c } → c ≡ keptOf t → Gives a t u d
   unfolding P.Turns A.refusal A.refusalNumber
@@ -168,7 +168,7 @@ module _ (t : T.Table) (s : Seen) (r : Record) where
   peer-refuses k p q f =
       rw (p, q)
       (λ queue staged sent n peer w l pw pl z e.
-      (record { place = omega arith; slot = omega arith }, refusal-is (lent t queue staged sent) refl (all-kept t) ∙ sym (f queue staged sent n peer w l pw pl z)))
+      (kept-fits t, refusal-is (lent t queue staged sent) refl (all-kept t) ∙ sym (f queue staged sent n peer w l pw pl z)))
 
   pub peer-unsound : {d : PeerEffect} {c : Change} → s ≡ Unsound → d ≡ record { answer = Acted.Refused Refusal.State; change = c } → c ≡ keptOf t → Settles t s r d
   unfolding S.SeenAs A.refusal A.refusalNumber
