@@ -24,7 +24,7 @@ use Rattle.lookup.specs.Changed.{keptOf, applied}
 use Rattle.lookup.proofs.Limits.{limits}
 use Rattle.lookup.proofs.Branch.{refusal-is}
 use Rattle.lookup.proofs.Branch as B
-use Rattle.lookup.proofs.Changes.{all-kept, recorded, recorded-is}
+use Rattle.lookup.proofs.Changes.{all-kept, kept-fits, recorded, recorded-is}
 use Rattle.soundness.specs.declared.Seen.{Seen}
 use Rattle.soundness.specs.declared.Seen.the-variants.{Unsound, Unknown, At}
 use Rattle.soundness.specs.Sees as W
@@ -77,7 +77,7 @@ module _ (t : D.Table) (s : Seen) (staged : List ℕ) (call : ℕ → Act) where
       → ((queue sent : List ℕ) (n : ℕ) → Sees t queue staged sent n s → called (lent t queue staged sent) (act (call n)) ≡ record { answer = refusal k; state = lent t queue staged sent })
       → Gives t s staged staged c (refusal k) call
   unfolding W.Gives
-  refusing k q f = rw q (λ queue sent n z. (record { place = omega arith; slot = omega arith }, refusal-is (lent t queue staged sent) refl (all-kept t) ∙ sym (f queue sent n z)))
+  refusing k q f = rw q (λ queue sent n z. (kept-fits t, refusal-is (lent t queue staged sent) refl (all-kept t) ∙ sym (f queue sent n z)))
 
   pub refusing-unsound : {c : Change} → s ≡ Unsound → c ≡ keptOf t → Gives t s staged staged c (refusal Refusal.State) call
   refusing-unsound v q = refusing Refusal.State q (λ queue sent n z. unsound z v (act (call n)))

@@ -1,7 +1,7 @@
 -- One law of Cases for each of what can be seen.
 -- Assumes nothing.
 use borrow.Author.Needs.{needs}
-use native.Mathlib.Omega.{arith}
+use Rattle.lookup.proofs.Changes.{kept-fits}
 use Rattle.sending.specs.Carried as N
 use Rattle.sending.proofs.Cases.{sends-unsound, sends-unknown, sends-known}
 use Rattle.sending.proofs.send.Statement.{statement}
@@ -29,14 +29,14 @@ send-on-requires c κs = rw (c .before .before .before .seen .given .1) at (c .b
 returns : tie.Need-returns
 returns c =
     let a = c .before .before .before .before .before .before .args in (
-      rw (c .keep .ensures) (record { place = omega arith; slot = omega arith }),
+      rw (c .keep .ensures) (kept-fits (a .t)),
       rw (c .before .enum-told .given .1) (sends-unsound (a .straight) (a .rekey) (a .t) (a .queue .now) (a .out .now) (a .number .0) (a .kind) (a .buf .now) (c .keep .ensures)),
     )
 
 returns-2 : tie.Need-returns-2
 returns-2 c =
     let a = c .before .before .before .before .before .before .args in (
-      rw (c .keep2 .ensures) (record { place = omega arith; slot = omega arith }),
+      rw (c .keep2 .ensures) (kept-fits (a .t)),
       rw (c .before .enum-told2 .given .1) (sends-unknown (a .straight) (a .rekey) (a .t) (a .queue .now) (a .out .now) (a .number .0) (a .kind) (a .buf .now) (c .keep2 .ensures)),
     )
 

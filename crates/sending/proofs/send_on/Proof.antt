@@ -4,6 +4,7 @@ use mathlib.Core.Path.{_≡_}
 use lib.ListN.{length}
 use borrow.Author.Needs.{needs}
 use native.Mathlib.Omega.{arith}
+use Rattle.lookup.proofs.Changes.{kept-fits}
 use Rattle.sending.specs.declared.Plan.{Plan}
 use Rattle.sending.specs.Planned.{freeOf, Planned}
 use Rattle.sending.specs.Carried as N
@@ -64,7 +65,7 @@ returns c =
     record {
       plan = _;
       planned = planned d (p .plan .given .1);
-      carries = record { fits = rw (c .keep .ensures) (record { place = omega arith; slot = omega arith }); is = kept-after (a .t) (a .queue .now) (a .out .now) _ (c .keep .ensures) };
+      carries = record { fits = rw (c .keep .ensures) (kept-fits (a .t)); is = kept-after (a .t) (a .queue .now) (a .out .now) _ (c .keep .ensures) };
     }
 
 returns-2 : tie.Need-returns-2
@@ -76,7 +77,7 @@ returns-2 c =
     record {
       plan = _;
       planned = planned d (p .enum-told .given .1);
-      carries = record { fits = rw (c .keep2 .ensures) (record { place = omega arith; slot = omega arith }); is = kept-after (a .t) (a .queue .now) (a .out .now) _ (c .keep2 .ensures) };
+      carries = record { fits = rw (c .keep2 .ensures) (kept-fits (a .t)); is = kept-after (a .t) (a .queue .now) (a .out .now) _ (c .keep2 .ensures) };
     }
 
 same-length : tie.Need-same-length
