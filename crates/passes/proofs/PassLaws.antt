@@ -10,6 +10,7 @@ use lib.Dec.{eqb}
 use native.Mathlib.Omega.{arith}
 use Rattle.laws.proofs.Tests.{by-test}
 use Rattle.channel.specs.declared.Record.{Record}
+use Rattle.channel.specs.declared.Entry as E
 use Rattle.channel.specs.declared.Table as T
 use Rattle.channel.specs.State.{numberOf, Entry, queued, without}
 use Rattle.channel.specs.Decide.{flushed, anyByte}
@@ -21,7 +22,7 @@ use Rattle.passes.specs.declared.Kept.{Kept}
 use Rattle.passes.specs.declared.Size.{Size}
 use Rattle.passes.specs.Keep.{Base, keeps, keptWith, tableWith}
 use Rattle.passes.specs.Flush.{sizes, sizeOf, anyLeft, stuckBy, positiveOf}
-use Rattle.passes.specs.Pass.{entriesIn, flushedIn}
+use Rattle.passes.specs.Pass.{entriesIn, flushedOf, flushedIn}
 use Rattle.passes.proofs.Definition.{entries-used, any-left, flushed-limit, sizes-flushed, keeps-flushed, keeps-without}
 
 -- a limit that is not 0
@@ -91,6 +92,9 @@ module _ (c : Record) (t : T.Table) (q : List ℕ) (b : Base (t .entries) (t .«
         ∙ sizes-flushed d (d .«recipient_window_size») (entriesIn t q) (rw e (positive-limit c))
         ∙ ap sizeOf (same-by d e)
 
-  -- as the compaction has it
-  pub kept-by : (w : ℕ) → w ≡ c .«recipient_window_size» → keeps (numberOf c) true w (entriesOf (t .«entry_count») (t .entries) q) ≡ flushedIn t q c .kept
-  kept-by w e = ap₂ (λ v es. keeps (numberOf c) true v es) e (sym (whole t q b)) ∙ keeps-flushed c (c .«recipient_window_size») (entriesIn t q)
+-- as the compaction has it
+pub kept-by : (c : Record) (es : List E.Entry) (count used : ℕ) (q : List ℕ) → Base es count q used
+    → (w : ℕ) → w ≡ c .«recipient_window_size» → keeps (numberOf c) true w (entriesOf count es q) ≡ flushedOf es count used q c .kept
+kept-by c es count used q b w e =
+    let m : entriesOf count es (take used q) ≡ entriesOf count es q = entries-used count es q used (omega (arith, b .total)) in
+    ap₂ (λ v x. keeps (numberOf c) true v x) e (sym m) ∙ keeps-flushed c (c .«recipient_window_size») (entriesOf count es (take used q))

@@ -28,7 +28,7 @@ ghost use Rattle.channel.specs.Sound.{sumLeft};
 ghost use Rattle.lookup.specs.Update.{filed};
 ghost use Rattle.passes.specs.Keep.{Base, goesBy, cutBy, stillBy, keeps, queueWith, keptWith, tableWith};
 ghost use Rattle.passes.specs.Flush.{takenBy, stopsBy, sizes, hasByteBy, anyLeft, stuckBy, positiveOf};
-ghost use Rattle.passes.specs.Pass.{entriesIn, flushedIn, PlannedBy};
+ghost use Rattle.passes.specs.Pass.{entriesIn, flushedOf, flushedIn, PlannedBy};
 
 // What a compaction leaves: the entries, how many, and the queue's used count.
 pub struct Kept {
@@ -356,22 +356,31 @@ fn with_kept(t: Table, k: Kept) -> Table
     r
 }
 
-// The channel's frames into `dst`, and the queue and the entries without what was framed. The limit matters where a byte is
-// pending, and is not 0 there.
-pub fn carry(t: Table, queue: &mut [u8], dst: &mut [u8], start: usize, c: Record) -> Table
+// The channel's frames into `dst`. The limit matters where a byte is pending, and is not 0 there.
+pub fn frame_entries(t: Table, queue: &[u8], dst: &mut [u8], start: usize, c: Record)
     requires { ⌜ Base (t .entries) (t .«entry_count») (now queue) (t .«queue_used») ⌝ }
     requires { ⌜ (length (now dst) ≤ mostBytes) × (stuckBy c (take (t .«entry_count») (t .entries)) ≡ false) × (start + length (frames (flushedIn t (now queue) c .out)) ≤ length (now dst)) ⌝ }
-    ensures { λ r. ⌜ now (dst .exit) ≡ write start (frames (flushedIn t (now (queue .entry)) c .out)) (now (dst .entry)) ⌝ }
-    ensures { λ r. ⌜ now (queue .exit) ≡ queueWith (flushedIn t (now (queue .entry)) c .kept) (t .«queue_used») (now (queue .entry)) ⌝ }
-    ensures { λ r. ⌜ r ≡ tableWith (flushedIn t (now (queue .entry)) c .kept) t ⌝ }
+    ensures { λ _. ⌜ now (dst .exit) ≡ write start (frames (flushedIn t (now (queue .entry)) c .out)) (now (dst .entry)) ⌝ }
 {
     let es = t.entries;
-    let count = t.entry_count;
     let d = positive(c);
-    frame_pending(dst, start, es, count, queue, d);
+    frame_pending(dst, start, es, t.entry_count, queue, d);
+}
+
+// The queue and the entries without what a flush frames. A caller lends its own entries, so that they are changed where they stand.
+pub fn keep_rest(
+    entries: [Entry; 64],
+    count: usize,
+    queue: &mut [u8],
+    used: usize,
+    c: Record,
+) -> Kept
+    requires { ⌜ Base entries count (now queue) used ⌝ }
+    ensures { λ r. ⌜ now (queue .exit) ≡ queueWith (flushedOf entries count used (now (queue .entry)) c .kept) used (now (queue .entry)) ⌝ }
+    ensures { λ r. ⌜ r ≡ keptWith (flushedOf entries count used (now (queue .entry)) c .kept) count entries ⌝ }
+{
     let w = wide(c.recipient_window_size);
-    let k = compact(es, count, queue, t.queue_used, c.sender_channel, w);
-    with_kept(t, k)
+    compact(entries, count, queue, used, c.sender_channel, w)
 }
 
 // All of a channel's entries leave the queue, as an incoming CLOSE asks.

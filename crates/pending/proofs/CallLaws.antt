@@ -25,24 +25,34 @@ use Rattle.channel.specs.Raw.{Raw, meaning, placesOf, zeroRecord}
 use Rattle.channel.specs.Raw as R
 use Rattle.channel.specs.Sound.{isSound}
 use Rattle.channel.specs.Called.{Typed, Outcome, called, outcome}
+use Rattle.channel.specs.Answers as Ans
 use Rattle.channel.proofs.Wire.{frames-append}
 use Rattle.channel.proofs.Entries.{less-flushed}
 use Rattle.channel.proofs.Promises.{sound-stays}
-use Rattle.lookup.specs.Held.{HeldAt, recordAt}
+use Rattle.lookup.specs.declared.Seat.{Seat}
+use Rattle.lookup.specs.declared.Seat.the-variants as S
+use Rattle.lookup.specs.Held.{Seats, HeldAt, recordAt}
 use Rattle.lookup.specs.Update.{placed, filed, counted, stagedMore, sentMore}
+use Rattle.lookup.proofs.Changes.{records-kept}
 use Rattle.lookup.proofs.Limits.{limits}
 use Rattle.lookup.proofs.Decided.{by-load, none-known, held-known, straight-is}
 use Rattle.lookup.proofs.Bridge.{Put, put-none, put-as, Places, changed-places, freed-places}
 use Rattle.lookup.proofs.Framed.{put-written}
 use Rattle.lookup.proofs.Branch.{HasRoom, sent, staged, refusing, lacking, gone}
+use Rattle.soundness.specs.declared.Seen.{Seen}
+use Rattle.soundness.specs.declared.Seen.the-variants.{Unsound, Unknown, At}
+use Rattle.soundness.specs.Sees.{SeenAs}
+use Rattle.passes.specs.declared.Kept.{Kept}
 use Rattle.passes.specs.declared.Size.{Size}
-use Rattle.passes.specs.Keep.{queueWith, entriesWith, tableWith}
+use Rattle.passes.specs.Keep.{queueWith, entriesWith, keptWith}
 use Rattle.passes.specs.Keep as Keep
 use Rattle.passes.specs.Flush.{sizeOf}
 use Rattle.passes.specs.Pass.{entriesIn, flushedIn}
 use Rattle.passes.proofs.Definition.{window-flushed}
 use Rattle.passes.proofs.Rows.{kept-rows}
-use Rattle.pending.specs.Plan.{resultOf, controlOf, chargedBy, settledBy, planOf, afterFlush, outSize, controlSize, Goes}
+use Rattle.pending.specs.declared.Left.{Left}
+use Rattle.pending.specs.declared.Flushing.{Flushing}
+use Rattle.pending.specs.Plan.{resultOf, controlOf, chargedBy, planOf, afterFlush, outSize, controlSize, leftBy, filledBy, Known, seenOf, Goes}
 use Rattle.pending.proofs.PlanLaws.{flush-limit, flush-goes, closed-place, open-place, settled-closed, settled-open, plan-last}
 
 -- a call on a sound state leaves it sound
@@ -67,10 +77,7 @@ unknown-is r ty sd route n e =
     let b = goesStraight (direct route) (meaning r) in
     refusing r ty sd (put route (flush n)) b 2 (by-load r route (flush n) b refl (none-known r n e (flushOn (meaning r .table))))
 
-module _ (r : Raw) (ty : Typed r) (sd : isSound r ≡ true) (route : Route) (n i : ℕ) (h : HeldAt (r .held) n i) where
-  abbrev C : Record
-  C = recordAt (r .held) i
-
+module _ (r : Raw) (ty : Typed r) (sd : isSound r ≡ true) (route : Route) (n i : ℕ) (h : HeldAt (r .held) n i) (C : Record) (there : C ≡ recordAt (r .held) i) where
   abbrev F : Flushed
   F = flushedIn (r .held) (r .queue) C
 
@@ -82,7 +89,7 @@ module _ (r : Raw) (ty : Typed r) (sd : isSound r ≡ true) (route : Route) (n i
 
   decided : (b : Bool) {o : Decision} → goesStraight (direct route) (meaning r) ≡ b → flushOn (meaning r .table) C ≡ o → step (meaning r) K ≡ apply (meaning r) b o
   unfolding D.load
-  decided b e d = by-load r route (flush n) b e (held-known r n i h (flushOn (meaning r .table)) ∙ d)
+  decided b e d = by-load r route (flush n) b e (held-known r n i h (flushOn (meaning r .table)) ∙ ap (flushOn (meaning r .table)) (sym there) ∙ d)
 
   -- a byte is pending and the limit is 0
   pub limit-is : eqb (C .«recipient_maximum_packet_size») 0 && anyByte (numberOf C) (entriesIn (r .held) (r .queue)) ≡ true → called r K ≡ record { answer = refused 4; state = r }
@@ -110,12 +117,12 @@ module _ (r : Raw) (ty : Typed r) (sd : isSound r ≡ true) (route : Route) (n i
         let last = plan-last (meaning r .table) C F in
         by-test (F .all && C .«pending_close»)
         (λ e.
-        let pl : Places (plan .table .places) (r .held .used - 2 ^ i) (set (r .held .records) i zeroRecord) = rw (closed-place (meaning r .table) C F e) (freed-places r ty sd n i h) in
+        let pl : Places (plan .table .places) (r .held .used - 2 ^ i) (set (r .held .records) i zeroRecord) = rw (closed-place (meaning r .table) C F e) (rw (sym there) at (freed-places r ty sd n i h)) in
         gone r ty sd K b plan steps m pl rs ps qs
         ∙ ap out (ap (λ x. placed (r .held) x (r .held .used - 2 ^ i) (set (r .held .records) i zeroRecord)) last ∙ sym (settled-closed (r .held) i C (F .window) (F .all) e)))
         (λ e.
         let d : Record = chargedBy C (F .window) (F .all) in
-        let pl : Places (plan .table .places) (r .held .used) (set (r .held .records) i d) = rw (open-place (meaning r .table) C F e) (changed-places r ty sd n i h d) in
+        let pl : Places (plan .table .places) (r .held .used) (set (r .held .records) i d) = rw (open-place (meaning r .table) C F e) (rw (sym there) at (changed-places r ty sd n i h d)) in
         gone r ty sd K b plan steps m pl rs ps qs
         ∙ ap out (ap (λ x. placed (r .held) x (r .held .used) (set (r .held .records) i d)) last ∙ sym (settled-open (r .held) i C (F .window) (F .all) e)))
 
@@ -207,23 +214,44 @@ module _ (t : T.Table) (q : List ℕ) (i : ℕ) (c : Record) (s : Size) (z : s �
   pub answer-is : {a : Answer} → a ≡ gave (resultOf c (s .wrote) (s .all)) → a ≡ gave (resultOf c (E₁ .wrote) (E₁ .all))
   answer-is e = e ∙ ap (λ x. gave (resultOf c (x .wrote) (x .all))) z
 
-  -- the table after the carry-out and the record's place
-  module _ (u v : T.Table) (eu : u ≡ tableWith (E₁ .kept) t) where
-    pub same-word : u .used ≡ t .used
+  -- the table with what the flush leaves
+  module _ (k : Kept) (l : Left) (ek : k ≡ keptWith (E₁ .kept) (t .«entry_count») (t .entries)) where
+    filled-is : (x y x′ y′ : ℕ) → x ≡ x′ → y ≡ y′ → l ≡ leftBy t i c (c .«recipient_window_size» - s .wrote) (s .all) k x y
+        → filledBy t l ≡ counted (afterFlush t q i c) x′ y′
+    unfolding Keep.tableWith Keep.keptWith
+    filled-is x y x′ y′ e f el = ap (filledBy t) el ∙ (λ j. filledBy t (leftBy t i c (window-is j) (z j .all) (ek j) (e j) (f j)))
+
+    pub staged-left : (more : ℕ) → more ≡ outSize t q c + controlSize t q c
+        → l ≡ leftBy t i c (c .«recipient_window_size» - s .wrote) (s .all) k (t .«staged_used» + more) (t .«sent_used»)
+        → filledBy t l ≡ stagedMore (afterFlush t q i c) (outSize t q c + controlSize t q c)
     unfolding Keep.tableWith
-    same-word = ap (λ x. x .used) eu
+    staged-left more e el = filled-is _ _ (t .«staged_used» + (outSize t q c + controlSize t q c)) (t .«sent_used») (ap (λ m. t .«staged_used» + m) e) refl el
 
-    module _ (ev : v ≡ settledBy u i c (c .«recipient_window_size» - s .wrote) (s .all)) where
-      pub settled-is : v ≡ afterFlush t q i c
-      settled-is =
-          ev
-          ∙ ap (λ x. settledBy x i c (c .«recipient_window_size» - s .wrote) (s .all)) eu
-          ∙ ap₂ (λ w b. settledBy (tableWith (E₁ .kept) t) i c w b) window-is (ap (λ x. x .all) z)
+    pub sent-left : (more : ℕ) → more ≡ controlSize t q c
+        → l ≡ leftBy t i c (c .«recipient_window_size» - s .wrote) (s .all) k (t .«staged_used» + more) (t .«sent_used» + s .size)
+        → filledBy t l ≡ stagedMore (sentMore (afterFlush t q i c) (outSize t q c)) (controlSize t q c)
+    unfolding Keep.tableWith
+    sent-left more e el =
+        filled-is _ _ (t .«staged_used» + controlSize t q c) (t .«sent_used» + outSize t q c) (ap (λ m. t .«staged_used» + m) e) (ap (λ m. t .«sent_used» + m) size-is) el
 
-      pub same-staged : v .«staged_used» ≡ t .«staged_used»
-      unfolding Keep.tableWith
-      same-staged = ap (λ x. x .«staged_used») settled-is
+-- the record that was there, stored again
+pub as-it-was : (t : T.Table)
+    → filledBy t (record { used = t .used; at = 0; params = recordAt t 0; kept = record { entries = t .entries; count = t .«entry_count»; used = t .«queue_used» }; «staged_used» = t .«staged_used»; «sent_used» = t .«sent_used» }) ≡ t
+as-it-was t j = placed t (t .last) (t .used) (records-kept t j)
 
-      pub same-sent : v .«sent_used» ≡ t .«sent_used»
-      unfolding Keep.tableWith
-      same-sent = ap (λ x. x .«sent_used») settled-is
+-- the table that is made of it
+pub finished : {x y : Flushing} {q st se : List ℕ} {o : Outcome} → x ≡ y → outcome (Ans.flushed (y .answer)) (y .table) q st se ≡ o → outcome (Ans.flushed (x .answer)) (x .table) q st se ≡ o
+finished {q = q} {st = st} {se = se} e f = ap (λ x. outcome (Ans.flushed (x .answer)) (x .table) q st se) e ∙ f
+
+-- WHAT IS KNOWN of a channel
+
+pub known-seen : (r : Raw) (n : ℕ) (s : Seen) → SeenAs (r .held) (r .queue) (r .staged) (r .sent) n s → Known r n s
+unfolding SeenAs Known
+known-seen r n Unsound h = h
+known-seen r n Unknown h = h
+known-seen r n (At i c waits) h = (h .sound, h .held, h .record-is)
+
+pub known-seat : (r : Raw) (n : ℕ) (s : Seat) → isSound r ≡ true → Seats (r .held .used) (r .held .records) n s → Known r n (seenOf s)
+unfolding Seats Known seenOf
+known-seat r n S.Nothing sd h = (sd, h)
+known-seat r n (S.At i c) sd h = (sd, h .0, h .1)

@@ -1,6 +1,6 @@
 -- From the carry-out to the definition's plan, and from the plan to `called`.
 -- Assumes nothing.
-use Prim.Native.Nat.{ℕ, _+_, _≤_}
+use Prim.Native.Nat.{ℕ, _+_, _-_, _^_, _≤_}
 use mathlib.Core.Path.{_≡_, refl, sym, ap, ap₂, _∙_}
 use mathlib.Core.Bool.{Bool, true, false, _&&_, not, cond, true≢false}
 use mathlib.Core.List.{List, [], _++_}
@@ -161,3 +161,20 @@ plan-last t c f = by (f .all) (c .«pending_close»)
     by true true = refl
     by true false = refl
     by false close = refl
+
+-- by the test that the code makes
+pub word-gone : (used i : ℕ) (gone : Bool) → gone ≡ true → used - 2 ^ i ≡ wordBy used i gone
+unfolding wordBy
+word-gone used i gone e = sym (ap (λ b. cond b (used - 2 ^ i) used) e)
+
+pub word-stays : (used i : ℕ) (gone : Bool) → gone ≡ false → used ≡ wordBy used i gone
+unfolding wordBy
+word-stays used i gone e = sym (ap (λ b. cond b (used - 2 ^ i) used) e)
+
+pub record-gone : (c : Record) (w : ℕ) (all : Bool) → all && c .«pending_close» ≡ true → zeroRecord ≡ recordBy c w all
+unfolding recordBy
+record-gone c w all e = sym (ap (λ b. cond b zeroRecord (chargedBy c w all)) e)
+
+pub record-stays : (c : Record) (w : ℕ) (all : Bool) → all && c .«pending_close» ≡ false → chargedBy c w all ≡ recordBy c w all
+unfolding recordBy
+record-stays c w all e = sym (ap (λ b. cond b zeroRecord (chargedBy c w all)) e)

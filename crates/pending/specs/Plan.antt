@@ -8,20 +8,27 @@ use lib.ListN.{length, take, set}
 use Rattle.channel.specs.declared.Record.{Record}
 use Rattle.channel.specs.declared.Table as D
 use Rattle.channel.specs.Wire.{frames, eofMessage, closeMessage}
-use Rattle.channel.specs.State.{placeCount, Table, peerOf}
+use Rattle.channel.specs.State.{placeCount, Table, peerOf, look, nowhere}
 use Rattle.channel.specs.Call.{Call, Result, incomplete, complete}
 use Rattle.channel.specs.Change.{withPeerWindow, withMarks, withEntries, altered}
 use Rattle.channel.specs.Decide.{Plan, none, Flushed, unmarked}
-use Rattle.channel.specs.Raw.{Raw, zeroRecord}
+use Rattle.channel.specs.Raw.{Raw, placesOf, zeroRecord}
 use Rattle.channel.specs.Sound.{isSound}
 use Rattle.channel.specs.Called.{Typed, Outcome, called}
 use Rattle.laws.specs.Bits.{bit}
 use Rattle.octets.specs.Buf.{write}
 use Rattle.lookup.specs.Update.{placed, stagedMore, sentMore}
+use Rattle.lookup.specs.declared.Seat.{Seat}
+use Rattle.lookup.specs.declared.Seat.the-variants as S
+use Rattle.lookup.specs.Held.{HeldAt, recordAt}
+use Rattle.soundness.specs.declared.Seen.{Seen}
+use Rattle.soundness.specs.declared.Seen.the-variants.{Unsound, Unknown, At}
+use Rattle.passes.specs.declared.Kept.{Kept}
 use Rattle.passes.specs.declared.Size.{Size}
 use Rattle.passes.specs.Keep.{Base, queueWith, tableWith}
 use Rattle.passes.specs.Flush.{sizeOf, stuckBy}
 use Rattle.passes.specs.Pass.{flushedIn}
+use Rattle.pending.specs.declared.Left.{Left}
 
 -- the answer by the bytes framed and whether none is left
 unfoldable pub resultOf : Record → ℕ → Bool → Result
@@ -89,6 +96,44 @@ pub record Straight (t : D.Table) (q st se : List ℕ) (i : ℕ) (c : Record) (x
   pub queue : q′ ≡ queueWith (flushedIn t q c .kept) (t .«queue_used») q
   pub staged : st′ ≡ write (t .«staged_used») (frames (controlOf c (flushedIn t q c .all))) st
   pub sent : se′ ≡ write (t .«sent_used») (frames (flushedIn t q c .out)) se
+
+-- WHAT IS LEFT of a table, and the table with it
+
+abbrev pub leftBy : D.Table → ℕ → Record → ℕ → Bool → Kept → ℕ → ℕ → Left
+leftBy t i c window all k staged sent =
+    record {
+      used = wordBy (t .used) i (all && c .«pending_close»);
+      at = i;
+      params = recordBy c window all;
+      kept = k;
+      «staged_used» = staged;
+      «sent_used» = sent;
+    }
+
+abbrev pub filledBy : D.Table → Left → D.Table
+filledBy t l =
+    record {
+      last = t .last;
+      used = l .used;
+      records = set (t .records) (l .at) (l .params);
+      entries = l .kept .entries;
+      «entry_count» = l .kept .count;
+      «queue_used» = l .kept .used;
+      «staged_used» = l .«staged_used»;
+      «sent_used» = l .«sent_used»;
+    }
+
+-- WHAT IS KNOWN of a channel: that the state is not sound, or that it is and where its record stands, if it has one
+
+unfoldable pub Known : Raw → ℕ → Seen → Type 0
+Known r n Unsound = isSound r ≡ false
+Known r n Unknown = (isSound r ≡ true) × (look n (placesOf (r .held .used) (r .held .records)) ≡ nowhere)
+Known r n (At i c waits) = (isSound r ≡ true) × HeldAt (r .held) n i × (c ≡ recordAt (r .held) i)
+
+-- a place, as what is seen of a sound state
+unfoldable pub seenOf : Seat → Seen
+seenOf S.Nothing = Unknown
+seenOf (S.At i c) = At i c true
 
 -- what a flush that was tested before tells its caller: the outcome, and that the state stays sound
 pub record Goes (r : Raw) (k : Call) (o : Outcome) : Type 0 where

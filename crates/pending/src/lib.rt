@@ -10,22 +10,24 @@ use channel::PeerNumber;
 use channel::Record;
 use channel::Refusal;
 use channel::Table;
+use channel::zero_record;
 use frames::put_close;
 use frames::put_eof;
-use lookup::Found;
-use lookup::find;
-use lookup::free_place;
-use lookup::send_more;
-use lookup::stage_more;
-use lookup::with_record;
+use lookup::Seat;
+use lookup::seat_of;
+use passes::Kept;
 use passes::Planned;
 use passes::Size;
-use passes::carry;
+use passes::frame_entries;
+use passes::keep_rest;
 use passes::plan;
+use soundness::Seen;
+use soundness::see;
 use soundness::sound;
 ghost use mathlib.Core.Path.{_≡_};
-ghost use mathlib.Core.Bool.{true, false, cond};
+ghost use mathlib.Core.Bool.{true, false, _&&_, not, cond};
 ghost use Prim.Native.Nat.{_+_, _-_, _≤_, _<_};
+ghost use lib.Dec.{eqb};
 ghost use lib.ListN.{length, take};
 ghost use Rattle.octets.specs.Buf.{write};
 ghost use Rattle.channel.specs.Wire.{frames};
@@ -38,13 +40,30 @@ ghost use Rattle.channel.specs.Raw as R;
 ghost use Rattle.channel.specs.Called.{Typed, lent, outcome, called};
 ghost use Rattle.channel.specs.Sound.{isSound};
 ghost use Rattle.channel.specs.Answers as Ans;
-ghost use Rattle.pending.specs.Plan.{resultOf, marked, controlOf, settledBy, chargedBy, Ready, Staged, Straight, Goes};
+ghost use Rattle.lookup.specs.Held.{HeldAt, recordAt};
+ghost use Rattle.pending.specs.Plan.{resultOf, marked, controlOf, chargedBy, wordBy, recordBy, leftBy, filledBy, Known, seenOf, Ready, Staged, Straight};
 ghost use Rattle.pending.specs.All.{nearerBy, leastFrom, noneYet, nextOf, TurnBy};
 
 // What a pending flush gives back.
 pub struct Flushing {
     pub answer: ChannelFlushResult,
     pub table: Table,
+}
+
+// What a flush leaves of a table: the word of used marks, the one record that may have changed, the entries, and the used counts.
+struct Left {
+    used: u32,
+    at: usize,
+    params: Record,
+    kept: Kept,
+    staged_used: usize,
+    sent_used: usize,
+}
+
+// What a pending flush answers, and what it leaves of the table.
+struct Done {
+    answer: ChannelFlushResult,
+    left: Left,
 }
 
 // The lowest number that has an entry, if there is one.
@@ -86,16 +105,59 @@ fn charged(c: Record, s: Size) -> Record
     d
 }
 
-// The record's place after a flush; it is freed where CLOSE is handed over.
-fn settle(t: Table, i: usize, c: Record, s: Size) -> Table
-    requires { ⌜ (i < placeCount) × (bit (t .used) i ≡ true) × (s .wrote ≤ c .«recipient_window_size») ⌝ }
-    ensures { λ r. ⌜ r ≡ settledBy t i c (c .«recipient_window_size» - s .wrote) (s .all) ⌝ }
+// The word of used marks after a flush: bit i is cleared where the record goes.
+fn word(used: u32, i: usize, gone: bool) -> u32
+    requires { ⌜ (i < placeCount) × (bit used i ≡ true) ⌝ }
+    ensures { λ r. ⌜ r ≡ wordBy used i gone ⌝ }
+{
+    if gone { used - (1u32 << i) } else { used }
+}
+
+// What stands at the record's place after a flush: nothing where CLOSE is handed over.
+fn settled(c: Record, s: Size) -> Record
+    requires { ⌜ s .wrote ≤ c .«recipient_window_size» ⌝ }
+    ensures { λ r. ⌜ r ≡ recordBy c (c .«recipient_window_size» - s .wrote) (s .all) ⌝ }
 {
     if s.all & c.pending_close {
-        free_place(t, i)
+        zero_record()
     } else {
-        with_record(t, i, charged(c, s))
+        charged(c, s)
     }
+}
+
+// What a flush of the record at place i leaves, with the entries and the used counts as given.
+fn leave(t: Table, i: usize, c: Record, s: Size, k: Kept, staged: usize, sent: usize) -> Left
+    requires { ⌜ (i < placeCount) × (bit (t .used) i ≡ true) × (s .wrote ≤ c .«recipient_window_size») ⌝ }
+    ensures { λ r. ⌜ r ≡ leftBy t i c (c .«recipient_window_size» - s .wrote) (s .all) k staged sent ⌝ }
+{
+    Left {
+        used: word(t.used, i, s.all & c.pending_close),
+        at: i,
+        params: settled(c, s),
+        kept: k,
+        staged_used: staged,
+        sent_used: sent,
+    }
+}
+
+// The table with what a flush leaves of it: the one place where a flush of one channel copies a table.
+fn filled(t: Table, l: Left) -> Table
+    requires { ⌜ l .at < placeCount ⌝ }
+    ensures { λ r. ⌜ r ≡ filledBy t l ⌝ }
+{
+    let at = l.at;
+    let params = l.params;
+    let kept = l.kept;
+    let es = kept.entries;
+    let mut next = t;
+    next.used = l.used;
+    next.records[at] = params;
+    next.entries = es;
+    next.entry_count = kept.count;
+    next.queue_used = kept.used;
+    next.staged_used = l.staged_used;
+    next.sent_used = l.sent_used;
+    next
 }
 
 // The bytes of a mark's message, if it is handed over.
@@ -151,13 +213,15 @@ fn answer(c: Record, s: Size) -> ChannelFlushResult
 }
 
 // The flush into staged: the frames, then the marks' messages.
-fn stage_flush(t: Table, queue: &mut [u8], staged: &mut [u8], i: usize, c: Record, s: Size) -> Table
+fn stage_flush(t: Table, queue: &mut [u8], staged: &mut [u8], i: usize, c: Record, s: Size) -> Left
     requires { ⌜ Ready t (now queue) i c s ⌝ }
     requires { ⌜ (length (now staged) ≤ mostBytes) × (t .«staged_used» + (s .size + length (frames (controlOf c (s .all)))) ≤ length (now staged)) ⌝ }
-    ensures { λ r. ⌜ Staged t (now (queue .entry)) (now (staged .entry)) i c r (now (queue .exit)) (now (staged .exit)) ⌝ }
+    ensures { λ r. ⌜ Staged t (now (queue .entry)) (now (staged .entry)) i c (filledBy t r) (now (queue .exit)) (now (staged .exit)) ⌝ }
+    ensures { λ r. ⌜ r .at < placeCount ⌝ }
 {
     let start = t.staged_used;
-    let u = carry(t, queue, staged, start, c);
+    let es = t.entries;
+    frame_entries(t, queue, staged, start, c);
     put_marks(
         staged,
         start + s.size,
@@ -165,8 +229,9 @@ fn stage_flush(t: Table, queue: &mut [u8], staged: &mut [u8], i: usize, c: Recor
         s.all & c.pending_eof,
         s.all & c.pending_close,
     );
-    let v = settle(u, i, c, s);
-    stage_more(v, s.size + marks_size(c, s.all))
+    let k = keep_rest(es, t.entry_count, queue, t.queue_used, c);
+    let more = s.size + marks_size(c, s.all);
+    leave(t, i, c, s, k, start + more, t.sent_used)
 }
 
 // The flush straight into sent; the marks' messages are staged all the same.
@@ -178,22 +243,26 @@ fn send_flush(
     i: usize,
     c: Record,
     found: Size,
-) -> Table
+) -> Left
     requires { ⌜ Ready t (now queue) i c found ⌝ }
     requires { ⌜ (length (now staged) ≤ mostBytes) × (t .«staged_used» + length (frames (controlOf c (found .all))) ≤ length (now staged)) ⌝ }
     requires { ⌜ (length (now sent) ≤ mostBytes) × (t .«sent_used» + found .size ≤ length (now sent)) ⌝ }
-    ensures { λ r. ⌜ Straight t (now (queue .entry)) (now (staged .entry)) (now (sent .entry)) i c r (now (queue .exit)) (now (staged .exit)) (now (sent .exit)) ⌝ }
+    ensures { λ r. ⌜ Straight t (now (queue .entry)) (now (staged .entry)) (now (sent .entry)) i c (filledBy t r) (now (queue .exit)) (now (staged .exit)) (now (sent .exit)) ⌝ }
+    ensures { λ r. ⌜ r .at < placeCount ⌝ }
 {
-    let u = carry(t, queue, sent, t.sent_used, c);
+    let start = t.staged_used;
+    let es = t.entries;
+    frame_entries(t, queue, sent, t.sent_used, c);
     put_marks(
         staged,
-        t.staged_used,
+        start,
         c.recipient_channel,
         found.all & c.pending_eof,
         found.all & c.pending_close,
     );
-    let v = settle(u, i, c, found);
-    stage_more(send_more(v, found.size), marks_size(c, found.all))
+    let k = keep_rest(es, t.entry_count, queue, t.queue_used, c);
+    let more = marks_size(c, found.all);
+    leave(t, i, c, found, k, start + more, t.sent_used + found.size)
 }
 
 // ONE CHANNEL
@@ -209,31 +278,42 @@ fn typed(t: Table, queue: &[u8], staged: &[u8], sent: &[u8])
 }
 
 // A refusal, which changes nothing.
-fn refused(t: Table, k: Refusal) -> Flushing
-    ensures { λ r. ⌜ (Ans.flushed (r .answer) ≡ Ans.refusal k) × (r .table ≡ t) ⌝ }
+fn refused(t: Table, k: Refusal) -> Done
+    ensures { λ d. ⌜ (Ans.flushed (d .answer) ≡ Ans.refusal k) × (filledBy t (d .left) ≡ t) × (d .left .at < placeCount) ⌝ }
 {
-    Flushing {
+    let es = t.entries;
+    Done {
         answer: ChannelFlushResult::Refused(k),
-        table: t,
+        left: Left {
+            used: t.used,
+            at: 0,
+            params: t.records[0],
+            kept: Kept {
+                entries: es,
+                count: t.entry_count,
+                used: t.queue_used,
+            },
+            staged_used: t.staged_used,
+            sent_used: t.sent_used,
+        },
     }
 }
 
-// A sound state's flush of a channel into staged, by whatever route leads there.
-fn flush_staged(
+// A sound state's flush of the record c at place i into staged, by whatever route leads there.
+fn stage_at(
     t: Table,
+    i: usize,
+    c: Record,
     queue: &mut [u8],
     staged: &mut [u8],
     sent: &[u8],
     number: ChannelId,
-) -> Flushing
-    requires { ⌜ isSound (lent t (now queue) (now staged) (now sent)) ≡ true ⌝ }
-    ensures { λ r. ⌜ ((route : Route) → goesStraight (direct route) (R.meaning (lent t (now (queue .entry)) (now (staged .entry)) (now (sent .entry)))) ≡ false → Goes (lent t (now (queue .entry)) (now (staged .entry)) (now (sent .entry))) (put route (flush (number .0))) (outcome (Ans.flushed (r .answer)) (r .table) (now (queue .exit)) (now (staged .exit)) (now (sent .exit)))) ⌝ }
+) -> Done
+    requires { ⌜ (isSound (lent t (now queue) (now staged) (now sent)) ≡ true) × Typed (lent t (now queue) (now staged) (now sent)) ⌝ }
+    requires { ⌜ HeldAt t (number .0) i × (c ≡ recordAt t i) ⌝ }
+    ensures { λ d. ⌜ ((route : Route) → goesStraight (direct route) (R.meaning (lent t (now (queue .entry)) (now (staged .entry)) (now (sent .entry)))) ≡ false → outcome (Ans.flushed (d .answer)) (filledBy t (d .left)) (now (queue .exit)) (now (staged .exit)) (now (sent .exit)) ≡ called (lent t (now (queue .entry)) (now (staged .entry)) (now (sent .entry))) (put route (flush (number .0)))) ⌝ }
+    ensures { λ d. ⌜ d .left .at < placeCount ⌝ }
 {
-    typed(t, queue, staged, sent);
-    let Found::At(i) = find(t, number) else {
-        return refused(t, Refusal::Unknown);
-    };
-    let c = t.records[i];
     let Planned::Frames(s) = plan(t, c, queue) else {
         return refused(t, Refusal::Limit);
     };
@@ -241,29 +321,28 @@ fn flush_staged(
     if room < s.size + marks_size(c, s.all) {
         return refused(t, Refusal::Room);
     }
-    let out = stage_flush(t, queue, staged, i, c, s);
-    Flushing {
+    let left = stage_flush(t, queue, staged, i, c, s);
+    Done {
         answer: answer(c, s),
-        table: out,
+        left,
     }
 }
 
-// A sound state's flush of a channel straight into sent: staged is empty, and no rekey is on.
-fn flush_straight(
+// The same straight into sent: staged is empty, and no rekey is on.
+fn send_at(
     t: Table,
+    i: usize,
+    c: Record,
     queue: &mut [u8],
     staged: &mut [u8],
     sent: &mut [u8],
     number: ChannelId,
-) -> Flushing
-    requires { ⌜ isSound (lent t (now queue) (now staged) (now sent)) ≡ true ⌝ }
-    ensures { λ r. ⌜ ((route : Route) → goesStraight (direct route) (R.meaning (lent t (now (queue .entry)) (now (staged .entry)) (now (sent .entry)))) ≡ true → Goes (lent t (now (queue .entry)) (now (staged .entry)) (now (sent .entry))) (put route (flush (number .0))) (outcome (Ans.flushed (r .answer)) (r .table) (now (queue .exit)) (now (staged .exit)) (now (sent .exit)))) ⌝ }
+) -> Done
+    requires { ⌜ (isSound (lent t (now queue) (now staged) (now sent)) ≡ true) × Typed (lent t (now queue) (now staged) (now sent)) ⌝ }
+    requires { ⌜ HeldAt t (number .0) i × (c ≡ recordAt t i) ⌝ }
+    ensures { λ d. ⌜ ((route : Route) → goesStraight (direct route) (R.meaning (lent t (now (queue .entry)) (now (staged .entry)) (now (sent .entry)))) ≡ true → outcome (Ans.flushed (d .answer)) (filledBy t (d .left)) (now (queue .exit)) (now (staged .exit)) (now (sent .exit)) ≡ called (lent t (now (queue .entry)) (now (staged .entry)) (now (sent .entry))) (put route (flush (number .0)))) ⌝ }
+    ensures { λ d. ⌜ d .left .at < placeCount ⌝ }
 {
-    typed(t, queue, staged, sent);
-    let Found::At(i) = find(t, number) else {
-        return refused(t, Refusal::Unknown);
-    };
-    let c = t.records[i];
     let Planned::Frames(s) = plan(t, c, queue) else {
         return refused(t, Refusal::Limit);
     };
@@ -275,29 +354,72 @@ fn flush_straight(
     if free < marks_size(c, s.all) {
         return refused(t, Refusal::Room);
     }
-    let out = send_flush(t, queue, staged, sent, i, c, s);
-    Flushing {
+    let left = send_flush(t, queue, staged, sent, i, c, s);
+    Done {
         answer: answer(c, s),
-        table: out,
+        left,
     }
 }
 
-// A sound state's flush of a channel by the writer form: sent is used while staged is empty and rekey is off.
-fn flush_routed(
+// The flush of a channel into staged, by what was seen of it.
+fn flush_staged(
     t: Table,
+    seen: Seen,
+    queue: &mut [u8],
+    staged: &mut [u8],
+    sent: &[u8],
+    number: ChannelId,
+) -> Done
+    requires { ⌜ Known (lent t (now queue) (now staged) (now sent)) (number .0) seen ⌝ }
+    ensures { λ d. ⌜ ((route : Route) → (isSound (lent t (now (queue .entry)) (now (staged .entry)) (now (sent .entry))) ≡ true → goesStraight (direct route) (R.meaning (lent t (now (queue .entry)) (now (staged .entry)) (now (sent .entry)))) ≡ false) → outcome (Ans.flushed (d .answer)) (filledBy t (d .left)) (now (queue .exit)) (now (staged .exit)) (now (sent .exit)) ≡ called (lent t (now (queue .entry)) (now (staged .entry)) (now (sent .entry))) (put route (flush (number .0)))) ⌝ }
+    ensures { λ d. ⌜ d .left .at < placeCount ⌝ }
+{
+    typed(t, queue, staged, sent);
+    match seen {
+        Seen::Unsound => refused(t, Refusal::State),
+        Seen::Unknown => refused(t, Refusal::Unknown),
+        Seen::At(i, c, _) => stage_at(t, i, c, queue, staged, sent, number),
+    }
+}
+
+// The flush of a channel straight into sent, by what was seen of it.
+fn flush_straight(
+    t: Table,
+    seen: Seen,
     queue: &mut [u8],
     staged: &mut [u8],
     sent: &mut [u8],
     number: ChannelId,
-    rekey: bool,
-) -> Flushing
-    requires { ⌜ isSound (lent t (now queue) (now staged) (now sent)) ≡ true ⌝ }
-    ensures { λ r. ⌜ Goes (lent t (now (queue .entry)) (now (staged .entry)) (now (sent .entry))) (put (record { form = Call.straight; rekey = rekey }) (flush (number .0))) (outcome (Ans.flushed (r .answer)) (r .table) (now (queue .exit)) (now (staged .exit)) (now (sent .exit))) ⌝ }
+) -> Done
+    requires { ⌜ Known (lent t (now queue) (now staged) (now sent)) (number .0) seen ⌝ }
+    ensures { λ d. ⌜ ((route : Route) → (isSound (lent t (now (queue .entry)) (now (staged .entry)) (now (sent .entry))) ≡ true → goesStraight (direct route) (R.meaning (lent t (now (queue .entry)) (now (staged .entry)) (now (sent .entry)))) ≡ true) → outcome (Ans.flushed (d .answer)) (filledBy t (d .left)) (now (queue .exit)) (now (staged .exit)) (now (sent .exit)) ≡ called (lent t (now (queue .entry)) (now (staged .entry)) (now (sent .entry))) (put route (flush (number .0)))) ⌝ }
+    ensures { λ d. ⌜ d .left .at < placeCount ⌝ }
 {
-    if !rekey & (t.staged_used == 0) {
-        flush_straight(t, queue, staged, sent, number)
-    } else {
-        flush_staged(t, queue, staged, sent, number)
+    typed(t, queue, staged, sent);
+    match seen {
+        Seen::Unsound => refused(t, Refusal::State),
+        Seen::Unknown => refused(t, Refusal::Unknown),
+        Seen::At(i, c, _) => send_at(t, i, c, queue, staged, sent, number),
+    }
+}
+
+// The writer form uses sent: staged is empty and rekey is off.
+fn straight(t: Table, rekey: bool) -> bool
+    ensures { λ b. ⌜ b ≡ not rekey && eqb (t .«staged_used») 0 ⌝ }
+{
+    !rekey & (t.staged_used == 0)
+}
+
+// The answer, and the table with what the flush leaves of it.
+fn finish(t: Table, done: Done) -> Flushing
+    requires { ⌜ done .left .at < placeCount ⌝ }
+    ensures { λ r. ⌜ r ≡ record { answer = done .answer; table = filledBy t (done .left) } ⌝ }
+{
+    let answer = done.answer;
+    let left = done.left;
+    Flushing {
+        answer,
+        table: filled(t, left),
     }
 }
 
@@ -311,10 +433,9 @@ pub fn flush_pending(
 ) -> Flushing
     ensures { λ r. ⌜ outcome (Ans.flushed (r .answer)) (r .table) (now (queue .exit)) (now (staged .exit)) (now (sent .exit)) ≡ called (lent t (now (queue .entry)) (now (staged .entry)) (now (sent .entry))) (put (record { form = Call.staged; rekey = false }) (flush (number .0))) ⌝ }
 {
-    if sound(t, queue, staged, sent) {
-        return flush_staged(t, queue, staged, sent, number);
-    }
-    refused(t, Refusal::State)
+    let seen = see(t, &queue[..], &staged[..], sent, number);
+    let done = flush_staged(t, seen, queue, staged, sent, number);
+    finish(t, done)
 }
 
 // The pending flush of one channel, straight into sent while staged is empty and rekey is off.
@@ -328,10 +449,13 @@ pub fn flush_pending_with_writer(
 ) -> Flushing
     ensures { λ r. ⌜ outcome (Ans.flushed (r .answer)) (r .table) (now (queue .exit)) (now (staged .exit)) (now (sent .exit)) ≡ called (lent t (now (queue .entry)) (now (staged .entry)) (now (sent .entry))) (put (record { form = Call.straight; rekey = rekey }) (flush (number .0))) ⌝ }
 {
-    if sound(t, queue, staged, sent) {
-        return flush_routed(t, queue, staged, sent, number, rekey);
+    let seen = see(t, &queue[..], &staged[..], &sent[..], number);
+    if straight(t, rekey) {
+        let done = flush_straight(t, seen, queue, staged, sent, number);
+        return finish(t, done);
     }
-    refused(t, Refusal::State)
+    let done = flush_staged(t, seen, queue, staged, sent, number);
+    finish(t, done)
 }
 
 // ALL CHANNELS
@@ -387,6 +511,37 @@ fn next_of(a: ChannelFlushResult, n: ChannelId) -> Next
     }
 }
 
+// What a sound state has of a channel, by its place.
+fn seen_of(seat: Seat) -> Seen
+    ensures { λ s. ⌜ s ≡ seenOf seat ⌝ }
+{
+    match seat {
+        Seat::Nothing => Seen::Unknown,
+        Seat::At(i, c) => Seen::At(i, c, true),
+    }
+}
+
+// A sound state's flush of a channel by the writer form.
+fn flush_routed(
+    t: Table,
+    seen: Seen,
+    queue: &mut [u8],
+    staged: &mut [u8],
+    sent: &mut [u8],
+    number: ChannelId,
+    rekey: bool,
+) -> Done
+    requires { ⌜ Known (lent t (now queue) (now staged) (now sent)) (number .0) seen ⌝ }
+    ensures { λ d. ⌜ outcome (Ans.flushed (d .answer)) (filledBy t (d .left)) (now (queue .exit)) (now (staged .exit)) (now (sent .exit)) ≡ called (lent t (now (queue .entry)) (now (staged .entry)) (now (sent .entry))) (put (record { form = Call.straight; rekey = rekey }) (flush (number .0))) ⌝ }
+    ensures { λ d. ⌜ d .left .at < placeCount ⌝ }
+{
+    if straight(t, rekey) {
+        flush_straight(t, seen, queue, staged, sent, number)
+    } else {
+        flush_staged(t, seen, queue, staged, sent, number)
+    }
+}
+
 // A turn of the flush of all into staged: the lowest channel from `from` on that has an entry.
 fn turn_staged(t: Table, queue: &mut [u8], staged: &mut [u8], sent: &[u8], from: u64) -> Turn
     requires { ⌜ isSound (lent t (now queue) (now staged) (now sent)) ≡ true ⌝ }
@@ -397,7 +552,10 @@ fn turn_staged(t: Table, queue: &mut [u8], staged: &mut [u8], sent: &[u8], from:
     let l = least_from(es, t.entry_count, from);
     if l.found {
         let n = ChannelId(l.number);
-        let f = flush_staged(t, queue, staged, sent, n);
+        let records = t.records;
+        let seen = seen_of(seat_of(t.used, records, n));
+        let done = flush_staged(t, seen, queue, staged, sent, n);
+        let f = finish(t, done);
         let a = f.answer;
         let out = f.table;
         return Turn {
@@ -428,7 +586,10 @@ fn turn_routed(
     let l = least_from(es, t.entry_count, from);
     if l.found {
         let n = ChannelId(l.number);
-        let f = flush_routed(t, queue, staged, sent, n, rekey);
+        let records = t.records;
+        let seen = seen_of(seat_of(t.used, records, n));
+        let done = flush_routed(t, seen, queue, staged, sent, n, rekey);
+        let f = finish(t, done);
         let a = f.answer;
         let after = f.table;
         return Turn {

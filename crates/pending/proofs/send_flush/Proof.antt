@@ -1,93 +1,82 @@
 -- `pending::send_flush` meets its contract: each step is the flush's own, by the sizes that were found.
 -- Assumes nothing.
-use mathlib.Core.Path.{ap, ap₂, _∙_}
+use mathlib.Core.Path.{ap, _∙_}
 use native.Mathlib.Omega.{arith}
 use borrow.Author.Needs.{needs}
 use lib.ListN.{length}
-use Rattle.laws.specs.Bits.{bit}
 use Rattle.octets.proofs.Laws.{length-write}
-use Rattle.lookup.specs.Update.{stagedMore, sentMore}
-use Rattle.pending.proofs.CallLaws.{wrote-le, size-is, marks-are, control-put, same-word, settled-is, same-staged, same-sent}
+use Rattle.pending.proofs.CallLaws.{wrote-le, size-is, marks-are, control-put, sent-left}
 use Rattle.pending.proofs.send_flush.Statement.{statement}
 use Rattle.pending.proofs.send_flush.Tie as tie
 
-carry-requires : tie.Need-carry-requires
-carry-requires c κs =
-    let s = c .before .before .before .before .before in
+frame-entries-requires : tie.Need-frame-entries-requires
+frame-entries-requires c κs =
+    let s = c .before .before .before .before .before .before in
     let y = s .pre .0 in
     let z = size-is (s .args .t) (s .args .queue .now) (s .args .i) (s .args .c) (s .args .found) (y .sizes) in
     (y .base, (s .pre .1 .1 .0, y .free, omega (arith, z, s .pre .1 .1 .1)))
 
 put-marks-requires : tie.Need-put-marks-requires
-put-marks-requires c κs = c .before .before .before .before .before .before .before .before .before .before .before .before .before .before .before .pre .1 .0 .1
+put-marks-requires c κs = search needs
 
-settle-requires : tie.Need-settle-requires
-settle-requires c κs =
-    let s = c .before .before .before .before .before .before .before .before .before .before .before .before .before .before .before .before .before .before in
-    let a = s .args in
-    let y = s .pre .0 in
-    let u = c .before .before .before .before .before .before .before .before .before .before .before .before .carry in
-    (y .place, ap (λ m. bit m (a .i)) (same-word (a .t) (a .queue .now) (a .i) (a .c) (a .found) (y .sizes) (u .result) (u .result) (u .ensures .1 .1)) ∙ y .used, wrote-le (a .t) (a .queue .now) (a .i) (a .c) (a .found) (y .sizes))
-
-send-more-requires : tie.Need-send-more-requires
-send-more-requires c κs =
-    let s = c .before .before .before .before .before .before .before .before .before .before .before .before .before .before .before .before .before .before .before in
-    let a = s .args in
-    let u = c .before .before .before .before .before .before .before .before .before .before .before .before .before .carry in
-    let e = same-sent (a .t) (a .queue .now) (a .i) (a .c) (a .found) (s .pre .0 .sizes) (u .result) (c .settle .result) (u .ensures .1 .1) (c .settle .ensures) in
-    omega (arith, e, s .pre .1 .1 .0, s .pre .1 .1 .1)
+keep-rest-requires : tie.Need-keep-rest-requires
+keep-rest-requires c κs = search needs
 
 marks-size-requires : tie.Need-marks-size-requires
 marks-size-requires c κs = search needs
 
-stage-more-requires : tie.Need-stage-more-requires
-stage-more-requires c κs =
-    let s = c .before .before .before .before .before .before .before .before .before .before .before .before .before .before .before .before .before .before .before .before .before in
+add-leave : tie.Need-add-leave
+add-leave c = let s = c .before .before .before .before .before .before .before .before .before .before .before .before .before .before .before .before .before .before .before .before .before .before in omega (arith, c .marks-size .ensures .0, s .pre .1 .0 .0, s .pre .1 .0 .1)
+
+add-leave-2 : tie.Need-add-leave-2
+add-leave-2 c = let s = c .before .before .before .before .before .before .before .before .before .before .before .before .before .before .before .before .before .before .before .before .before .before .before .before in omega (arith, s .pre .1 .1 .0, s .pre .1 .1 .1)
+
+leave-requires : tie.Need-leave-requires
+leave-requires c κs =
+    let s = c .before .before .before .before .before .before .before .before .before .before .before .before .before .before .before .before .before .before .before .before .before .before .before .before in
     let a = s .args in
-    let u = c .before .before .before .before .before .before .before .before .before .before .before .before .before .before .before .carry in
-    let v = c .before .before .settle in
-    let e = same-staged (a .t) (a .queue .now) (a .i) (a .c) (a .found) (s .pre .0 .sizes) (u .result) (v .result) (u .ensures .1 .1) (v .ensures) in
-    let f = ap (λ x. x .«staged_used») (c .before .send-more .ensures) in
-    omega (arith, e, f, c .marks-size .ensures .0, s .pre .1 .0 .0, s .pre .1 .0 .1)
+    let y = s .pre .0 in
+    (y .place, y .used, wrote-le (a .t) (a .queue .now) (a .i) (a .c) (a .found) (y .sizes))
 
 same-length : tie.Need-same-length
-same-length c = c .before .before .before .before .before .before .before .before .before .before .before .before .before .before .before .queue .given
+same-length c = search needs
 
 same-length-2 : tie.Need-same-length-2
 same-length-2 c = search needs
 
 same-length-3 : tie.Need-same-length-3
-same-length-3 c = ap length (c .before .before .before .before .before .before .before .before .before .before .before .before .before .before .before .before .carry .ensures .0) ∙ length-write _ _ _
+same-length-3 c = ap length (c .before .before .before .before .before .before .before .before .before .before .before .before .before .before .before .before .before .before .frame-entries .ensures) ∙ length-write _ _ _
 
 returns : tie.Need-returns
 returns c =
-    let s = c .before .before .before .before .before .before .before .before .before .before .before .before .before .before .before .before .before .before .before .before .before .before in
+    let s = c .before .before .before .before .before .before .before .before .before .before .before .before .before .before .before .before .before .before .before .before .before .before .before .before .before in
     let a = s .args in
-    let u = c .before .before .before .before .before .before .before .before .before .before .before .before .before .before .before .before .carry in
-    let v = c .before .before .before .settle in
-    let m = c .before .marks-size in
-    let z = s .pre .0 .sizes in
-    record {
-      table =
-          c .stage-more .ensures
-          ∙ ap₂ (λ x k. stagedMore x k)
-          (c .before .before .send-more .ensures ∙ ap₂ (λ x k. sentMore x k) (settled-is (a .t) (a .queue .now) (a .i) (a .c) (a .found) z (u .result) (v .result) (u .ensures .1 .1) (v .ensures)) (size-is (a .t) (a .queue .now) (a .i) (a .c) (a .found) z))
-          (m .ensures .0 ∙ marks-are (a .t) (a .queue .now) (a .i) (a .c) (a .found) z);
-      queue = u .ensures .1 .0;
-      staged = control-put (a .t) (a .queue .now) (a .i) (a .c) (a .found) z (a .t .«staged_used») (a .staged .now) _ (c .before .before .before .before .before .before .put-marks .ensures);
-      sent = u .ensures .0;
-    }
+    let y = s .pre .0 in
+    let k = c .before .before .before .before .before .before .keep-rest in
+    let m = c .before .before .before .marks-size in (
+      record {
+        table =
+            sent-left (a .t) (a .queue .now) (a .i) (a .c) (a .found) (y .sizes) (k .result) (c .leave .result) (k .ensures .1) _
+            (m .ensures .0 ∙ marks-are (a .t) (a .queue .now) (a .i) (a .c) (a .found) (y .sizes))
+            (c .leave .ensures);
+        queue = k .ensures .0;
+        staged = control-put (a .t) (a .queue .now) (a .i) (a .c) (a .found) (y .sizes) (a .t .«staged_used») (a .staged .now) _ (c .before .before .before .before .before .before .before .before .before .before .put-marks .ensures);
+        sent = c .before .before .before .before .before .before .before .before .before .before .before .before .before .before .before .before .before .before .frame-entries .ensures;
+      },
+      omega (arith, ap (λ x. x .at) (c .leave .ensures), y .place),
+    )
 
 pub send-flush-spec : {M : Type 1} → statement M
 send-flush-spec =
     tie.close
     (tie.spec
-    carry-requires
+    frame-entries-requires
     put-marks-requires
-    settle-requires
-    send-more-requires
+    keep-rest-requires
     marks-size-requires
-    stage-more-requires
+    add-leave
+    add-leave-2
+    leave-requires
     same-length
     same-length-2
     same-length-3

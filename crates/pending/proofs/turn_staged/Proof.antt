@@ -9,7 +9,7 @@ use Rattle.channel.specs.Raw.{Raw}
 use Rattle.channel.specs.Sound.{isSound}
 use Rattle.channel.specs.Called.{Typed, lent}
 use Rattle.lookup.proofs.Limits.{limits}
-use Rattle.pending.proofs.CallLaws.{staged-way}
+use Rattle.pending.proofs.CallLaws.{goes-by, known-seat, staged-way, finished}
 use Rattle.pending.proofs.AllLaws.{least-of, turn-next, turn-end}
 use Rattle.pending.proofs.turn_staged.Statement.{statement}
 use Rattle.pending.proofs.turn_staged.Tie as tie
@@ -35,8 +35,20 @@ typed-requires c κs = search needs
 least-from-requires : tie.Need-least-from-requires
 least-from-requires c κs = let t = c .before in (ty t .entries, limits (state t) (sd t) .few)
 
+seat-of-requires : tie.Need-seat-of-requires
+seat-of-requires c κs = search needs
+
+seen-of-requires : tie.Need-seen-of-requires
+seen-of-requires c κs = search needs
+
 flush-staged-requires : tie.Need-flush-staged-requires
-flush-staged-requires c κs = search needs
+flush-staged-requires c κs =
+    let s = c .before .before in
+    let t = s .before .before .before .before .before .before in
+    rw (s .seen-of .ensures) (known-seat (state t) (s .before .before .before .before .least-from .result .number) (s .before .seat-of .result) (sd t) (s .before .seat-of .ensures))
+
+finish-requires : tie.Need-finish-requires
+finish-requires c κs = search needs
 
 next-of-requires : tie.Need-next-of-requires
 next-of-requires c κs = search needs
@@ -49,11 +61,12 @@ same-length-2 c = search needs
 
 returns : tie.Need-returns
 returns c =
-    let l = c .before .before .before .before .before .before .before .before .before .before .least-from in
-    let t = c .before .before .before .before .before .before .before .before .before .before .before .before in
+    let l = c .before .before .before .before .before .before .before .before .before .before .before .before .before .before .least-from in
+    let t = c .before .before .before .before .before .before .before .before .before .before .before .before .before .before .before .before in
     let r = state t in
     let n = c .next-of .ensures in
-    turn-next r (ty t) (sd t) (route t) (t .before .before .before .before .before .before .args .from) (l .result) (least-of r (ty t) (sd t) _ (l .result) (l .ensures)) (c .before .before .before .before .before .before .before .before .before .if1 .taken) (n .1) _ _ (c .before .before .before .before .before .before .flush-staged .ensures (route t) (staged-way r (sd t) false))
+    turn-next r (ty t) (sd t) (route t) (t .before .before .before .before .before .before .args .from) (l .result) (least-of r (ty t) (sd t) _ (l .result) (l .ensures)) (c .before .before .before .before .before .before .before .before .before .before .before .before .before .if1 .taken) (n .1) _ _
+    (goes-by r (ty t) (sd t) _ _ (finished (c .before .before .finish .ensures) (c .before .before .before .before .before .before .before .flush-staged .ensures .0 (route t) (λ h. staged-way r h false))))
     _ (n .0)
 
 same-length-3 : tie.Need-same-length-3
@@ -75,7 +88,10 @@ turn-staged-spec =
     (tie.spec
     typed-requires
     least-from-requires
+    seat-of-requires
+    seen-of-requires
     flush-staged-requires
+    finish-requires
     next-of-requires
     same-length
     same-length-2
