@@ -10,8 +10,6 @@ use Rattle.channel.specs.declared.Record.{Record}
 use Rattle.channel.specs.declared.Table as D
 use Rattle.channel.specs.State.{placeCount, numberOf, vacant, holds, nowhere, found, look}
 use Rattle.channel.specs.Raw.{placesOf, zeroRecord}
-use Rattle.lookup.specs.declared.Found.{Found}
-use Rattle.lookup.specs.declared.Found.the-variants.{At, Nothing}
 use Rattle.lookup.specs.declared.Seat.{Seat}
 use Rattle.lookup.specs.declared.Seat.the-variants as S
 
@@ -33,11 +31,6 @@ HeldAt t n i = HeldIn (t .used) (t .records) n i
 unfoldable pub Seats : ℕ → List Record → ℕ → Seat → Type 0
 Seats used records n (S.At i r) = HeldIn used records n i × (r ≡ getD records i zeroRecord)
 Seats used records n S.Nothing = look n (placesOf used records) ≡ nowhere
-
--- what `find` answers
-unfoldable pub Finds : D.Table → ℕ → Found → Type 0
-Finds t n (At i) = HeldAt t n i
-Finds t n Nothing = look n (placesOf (t .used) (t .records)) ≡ nowhere
 
 -- place i is the lowest free one
 pub record FreeAt (t : D.Table) (i : ℕ) : Type 0 where

@@ -25,8 +25,7 @@ ghost use Rattle.channel.specs.State.{mostEntries, mostBytes, kindOf, without};
 ghost use Rattle.channel.specs.Decide.{flushed};
 ghost use Rattle.channel.specs.Raw.{entriesOf, zeroEntry};
 ghost use Rattle.channel.specs.Sound.{sumLeft};
-ghost use Rattle.lookup.specs.Update.{filed};
-ghost use Rattle.passes.specs.Keep.{Base, goesBy, cutBy, stillBy, keeps, queueWith, keptWith, tableWith};
+ghost use Rattle.passes.specs.Keep.{Base, goesBy, cutBy, stillBy, keeps, queueWith, keptWith};
 ghost use Rattle.passes.specs.Flush.{takenBy, stopsBy, sizes, hasByteBy, anyLeft, stuckBy, positiveOf};
 ghost use Rattle.passes.specs.Pass.{entriesIn, flushedOf, flushedIn, PlannedBy};
 
@@ -344,18 +343,6 @@ pub fn plan(t: Table, c: Record, queue: &[u8]) -> Planned
 
 // THE CARRY-OUT
 
-// The table with what a compaction left.
-fn with_kept(t: Table, k: Kept) -> Table
-    ensures { λ r. ⌜ r ≡ filed t (k .entries) (k .count) (k .used) ⌝ }
-{
-    let es = k.entries;
-    let mut r = t;
-    r.entries = es;
-    r.entry_count = k.count;
-    r.queue_used = k.used;
-    r
-}
-
 // The channel's frames into `dst`. The limit matters where a byte is pending, and is not 0 there.
 pub fn frame_entries(t: Table, queue: &[u8], dst: &mut [u8], start: usize, c: Record)
     requires { ⌜ Base (t .entries) (t .«entry_count») (now queue) (t .«queue_used») ⌝ }
@@ -381,17 +368,4 @@ pub fn keep_rest(
 {
     let w = wide(c.recipient_window_size);
     compact(entries, count, queue, used, c.sender_channel, w)
-}
-
-// All of a channel's entries leave the queue, as an incoming CLOSE asks.
-pub fn drop_entries(t: Table, queue: &mut [u8], n: ChannelId) -> Table
-    requires { ⌜ Base (t .entries) (t .«entry_count») (now queue) (t .«queue_used») ⌝ }
-    ensures { λ r. ⌜ now (queue .exit) ≡ queueWith (without (n .0) (entriesIn t (now (queue .entry)))) (t .«queue_used») (now (queue .entry)) ⌝ }
-    ensures { λ r. ⌜ r ≡ tableWith (without (n .0) (entriesIn t (now (queue .entry)))) t ⌝ }
-{
-    let es = t.entries;
-    let count = t.entry_count;
-    let used = t.queue_used;
-    let k = compact(es, count, queue, used, n, used);
-    with_kept(t, k)
 }

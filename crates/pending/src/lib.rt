@@ -15,6 +15,7 @@ use frames::put_close;
 use frames::put_eof;
 use lookup::Seat;
 use lookup::seat_of;
+use lookup::unmark;
 use passes::Kept;
 use passes::Planned;
 use passes::Size;
@@ -22,8 +23,8 @@ use passes::frame_entries;
 use passes::keep_rest;
 use passes::plan;
 use soundness::Seen;
+use soundness::is_sound;
 use soundness::see;
-use soundness::sound;
 ghost use mathlib.Core.Path.{_≡_};
 ghost use mathlib.Core.Bool.{true, false, _&&_, not, cond};
 ghost use Prim.Native.Nat.{_+_, _-_, _≤_, _<_};
@@ -110,7 +111,7 @@ fn word(used: u32, i: usize, gone: bool) -> u32
     requires { ⌜ (i < placeCount) × (bit used i ≡ true) ⌝ }
     ensures { λ r. ⌜ r ≡ wordBy used i gone ⌝ }
 {
-    if gone { used - (1u32 << i) } else { used }
+    if gone { unmark(used, i) } else { used }
 }
 
 // What stands at the record's place after a flush: nothing where CLOSE is handed over.
@@ -608,7 +609,8 @@ pub fn flush_all_pending(t: Table, queue: &mut [u8], staged: &mut [u8], sent: &[
     ensures { λ r. ⌜ outcome (Ans.allFlushed (r .answer)) (r .table) (now (queue .exit)) (now (staged .exit)) (now (sent .exit)) ≡ called (lent t (now (queue .entry)) (now (staged .entry)) (now (sent .entry))) (flushAll (record { form = Call.staged; rekey = false })) ⌝ }
 {
     let mut held = t;
-    if sound(t, queue, staged, sent) {
+    let seen = see(t, &queue[..], &staged[..], sent, ChannelId(0));
+    if is_sound(seen) {
         let mut from: u64 = 0;
         loop {
             let u = turn_staged(held, queue, staged, sent, from);
@@ -650,7 +652,8 @@ pub fn flush_all_pending_with_writer(
     ensures { λ r. ⌜ outcome (Ans.allFlushed (r .answer)) (r .table) (now (queue .exit)) (now (staged .exit)) (now (sent .exit)) ≡ called (lent t (now (queue .entry)) (now (staged .entry)) (now (sent .entry))) (flushAll (record { form = Call.straight; rekey = rekey })) ⌝ }
 {
     let mut held = t;
-    if sound(t, queue, staged, sent) {
+    let seen = see(t, &queue[..], &staged[..], &sent[..], ChannelId(0));
+    if is_sound(seen) {
         let mut from: u64 = 0;
         loop {
             let u = turn_routed(held, queue, staged, sent, from, rekey);

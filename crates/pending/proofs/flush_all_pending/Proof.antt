@@ -11,6 +11,8 @@ use Rattle.channel.specs.Raw.{Raw}
 use Rattle.channel.specs.Called.{lent}
 use Rattle.channel.specs.Answers as A
 use Rattle.lookup.proofs.Branch.{unsound}
+use Rattle.soundness.specs.Tested.{Tested}
+use Rattle.soundness.proofs.Told.{tested}
 use Rattle.pending.specs.All.{Passed, TurnBy}
 use Rattle.pending.proofs.AllLaws.{passed-none}
 use Rattle.pending.proofs.flush_all_pending.Statement.{statement}
@@ -23,17 +25,23 @@ Inv-loop queue₀ staged₀ sent held₀ from₀ queue staged held from =
 abbrev μ-loop : tie.MeasureT-loop
 μ-loop queue₀ staged₀ sent held₀ from₀ queue staged held from = 4294967296 - from
 
-abbrev state : tie.After-sound Inv-loop μ-loop → Raw
-state c = lent (c .before .before .before .before .before .before .args .t) (c .before .before .before .before .before .before .args .queue .now) (c .before .before .before .before .before .before .args .staged .now) (c .before .before .before .before .before .before .args .sent .now)
+abbrev state : tie.After-is-sound Inv-loop μ-loop → Raw
+state c = let a = c .before .before .before .before .before .before .before .args in lent (a .t) (a .queue .now) (a .staged .now) (a .sent .now)
 
-sound-requires : tie.Need-sound-requires Inv-loop μ-loop
-sound-requires c κs = search needs
+test : (c : tie.After-is-sound Inv-loop μ-loop) → Tested (state c .held) (state c .queue) (state c .staged) (state c .sent) (c .is-sound .result)
+test c = tested (c .before .see .ensures) (c .is-sound .ensures)
+
+see-requires : tie.Need-see-requires Inv-loop μ-loop
+see-requires c κs = search needs
+
+is-sound-requires : tie.Need-is-sound-requires Inv-loop μ-loop
+is-sound-requires c κs = search needs
 
 loop-holds : tie.Need-loop-holds Inv-loop μ-loop
 loop-holds c =
     let s = c .before in
-    let d = sym (s .sound .ensures .is) ∙ c .if1 .taken in
-    (passed-none (state s) (s .sound .ensures .typed) d (record { form = Call.staged; rekey = false }), omega arith, refl, refl)
+    let d = sym (test s .is) ∙ c .if1 .taken in
+    (passed-none (state s) (test s .typed) d (record { form = Call.staged; rekey = false }), omega arith, refl, refl)
 
 turn-staged-requires : tie.Need-turn-staged-requires Inv-loop μ-loop
 turn-staged-requires c κs = c .before .before .loop .inv .0 .sound
@@ -86,7 +94,7 @@ same-length-6 c = search needs
 
 returns-3 : tie.Need-returns-3 Inv-loop μ-loop
 unfolding A.allFlushed A.refusal A.refusalNumber
-returns-3 c = let s = c .before in sym (unsound (state s) _ (sym (s .sound .ensures .is) ∙ c .if1 .left))
+returns-3 c = let s = c .before in sym (unsound (state s) _ (sym (test s .is) ∙ c .if1 .left))
 
 pub flush-all-pending-spec : {M : Type 1} → statement M
 flush-all-pending-spec =
@@ -94,7 +102,8 @@ flush-all-pending-spec =
     (tie.spec
     Inv-loop
     μ-loop
-    sound-requires
+    see-requires
+    is-sound-requires
     loop-holds
     turn-staged-requires
     enum-told
