@@ -2,13 +2,13 @@
 -- Assumes nothing.
 use Prim.Native.Nat.{ℕ, _+_}
 use mathlib.Core.Path.{_≡_, refl, sym, ap, _∙_}
-use mathlib.Core.Bool.{true, false}
+use mathlib.Core.Bool.{Bool, true, false, cond}
 use mathlib.Core.List.{List}
 use native.Mathlib.Omega.{arith}
 use Rattle.laws.proofs.Tests.{by-test}
 use Rattle.channel.specs.declared.Table as D
 use Rattle.channel.specs.declared.Message as M
-use Rattle.channel.specs.declared.Message.the-variants.{OpenConfirmation, OpenFailure, WindowAdjust, Data, Eof}
+use Rattle.channel.specs.declared.Message.the-variants.{OpenConfirmation, OpenFailure, WindowAdjust, Data, Eof, Close}
 use Rattle.channel.specs.declared.Record.{Record}
 use Rattle.channel.specs.declared.Confirmation.{Confirmation}
 use Rattle.channel.specs.declared.Failure.{Failure}
@@ -16,140 +16,162 @@ use Rattle.channel.specs.declared.Adjust.{Adjust}
 use Rattle.channel.specs.declared.ChannelData.{ChannelData}
 use Rattle.channel.specs.declared.ChannelId.{ChannelId}
 use Rattle.channel.specs.declared.Refusal.{Refusal}
-use Rattle.channel.specs.declared.Refusal.the-variants.{Unknown, Unconfirmed, Credit, Already, Malformed}
+use Rattle.channel.specs.declared.Refusal.the-variants.{Unconfirmed, Credit, Already}
 use Rattle.channel.specs.declared.Acted.the-variants.{Done}
 use Rattle.channel.specs.declared.Acted.the-variants as Acted
+use Rattle.channel.specs.declared.Taken.{Taken}
 use Rattle.channel.specs.declared.Taken.the-variants.{Took, Refused}
 use Rattle.channel.specs.State.{look, nowhere}
-use Rattle.channel.specs.Change.{confirm, withPeerWindow}
-use Rattle.channel.specs.Decide.{refuse, serves, takenIn, takenRead}
+use Rattle.channel.specs.Change.{confirm, withPeerWindow, altered, removed}
+use Rattle.channel.specs.Decide.{Decision, refuse, quiet, passing, isConfirmed, serves, takenIn}
 use Rattle.channel.specs.Decide as G
-use Rattle.channel.specs.Step.{step, apply}
+use Rattle.channel.specs.Step.{apply}
 use Rattle.channel.specs.Raw.{Raw, placesOf, meaning}
-use Rattle.channel.specs.Read.{malformed, reads, readMessage}
-use Rattle.channel.specs.Sound.{isSound}
-use Rattle.channel.specs.Call.{act, incoming}
-use Rattle.channel.specs.Called.{Typed, called, lent}
+use Rattle.channel.specs.Call.{message}
+use Rattle.channel.specs.Called.{lent, outcome}
 use Rattle.channel.specs.Answers.{refusalNumber, messageOf}
 use Rattle.channel.specs.Answers as A
 use Rattle.lookup.specs.Held.{HeldAt, recordAt}
 use Rattle.credit.specs.declared.Credited.{Credited}
 use Rattle.credit.specs.Credit.{fits, creditAnswer, creditRecord}
-use Rattle.lookup.specs.Update.{recordSet, placeFreed}
-use Rattle.lookup.proofs.Decided.{if-true, if-false, serves-is, none-known, none-passes, held-known, held-fails, held-passes, by-act}
+use Rattle.lookup.specs.Update.{placed}
+use Rattle.lookup.proofs.Changes.{records-kept}
+use Rattle.lookup.proofs.Decided.{if-true, if-false, serves-is, none-known, none-passes, held-known, held-fails, held-passes}
 use Rattle.lookup.proofs.Branch.{refusing, same-is, recorded-is, freed-is}
-use Rattle.incoming.specs.declared.Heard.the-variants.{Not}
-use Rattle.incoming.specs.Takes.{TakesWith, Takes, creditTaken, creditTable, Served, Hears}
+use Rattle.incoming.specs.Takes.{heardAt, heardSame, heardFreed, heardTable, tableLeft, queueLeft, toWhom, Here, Takes}
 
--- a message that is refused
-pub refuses : (t : D.Table) (m : M.Message) (k : Refusal) → ((q st se : List ℕ) → takenIn (meaning (lent t q st se) .table) (messageOf m) ≡ refuse (refusalNumber k)) → Takes t m (Refused k) t
-unfolding Takes TakesWith A.taken A.refusal
-refuses t m k d q st se c ty sd e = sym (refusing (lent t q st se) ty sd c false (refusalNumber k) (e ∙ ap (apply (meaning (lent t q st se)) false) (d q st se)))
+-- nothing changes
+pub same-table : (t : D.Table) (a : Taken) → heardTable t (heardSame t a) ≡ t
+same-table t a = ap (λ rs. placed t (t .last) (t .used) rs) (records-kept t)
+
+-- BY WHAT THE DEFINITION DECIDES, over any buffers
+
+abbrev Decides : D.Table → M.Message → (Raw → Decision) → Type 0
+Decides t m d = (q st se : List ℕ) → takenIn (meaning (lent t q st se) .table) (messageOf m) ≡ d (lent t q st se)
+
+module _ (t : D.Table) (m : M.Message) where
+  pub refuses : (k : Refusal) → Decides t m (λ r. refuse (refusalNumber k)) → Takes t m (heardSame t (Refused k))
+  unfolding A.taken A.refusal tableLeft queueLeft
+  refuses k d st =
+      record {
+        place = omega arith;
+        is =
+            λ q se c ty sd e.
+            let r = lent t q st se in
+            ap (λ x. outcome (A.refusal k) x q st se) (same-table t (Refused k)) ∙ sym (refusing r ty sd c false (refusalNumber k) (e ∙ ap (apply (meaning r) false) (d q st se)));
+      }
+
+  -- nothing changes
+  hands : Decides t m (λ r. quiet (message (messageOf m)) (meaning r .table)) → Takes t m (heardSame t (Took m))
+  unfolding A.taken tableLeft queueLeft
+  hands d st =
+      record {
+        place = omega arith;
+        is =
+            λ q se c ty sd e.
+            let r = lent t q st se in
+            ap (λ x. outcome (A.taken (Took m)) x q st se) (same-table t (Took m)) ∙ sym (same-is r ty sd c false _ (e ∙ ap (apply (meaning r) false) (d q st se)));
+      }
+
+  module _ {n : ℕ} (i : ℕ) (h : HeldAt t n i) where
+    -- the record changes
+    alters : (x : Record) → Decides t m (λ r. quiet (message (messageOf m)) (altered (meaning r .table) (recordAt t i) x)) → Takes t m (heardAt t (Took m) i x)
+    unfolding A.taken tableLeft queueLeft
+    alters x d st =
+        record {
+          place = h .place;
+          is = λ q se c ty sd e. let r = lent t q st se in sym (recorded-is r ty sd c false _ n i h x (e ∙ ap (apply (meaning r) false) (d q st se)));
+        }
+
+    -- it goes
+    frees : Decides t m (λ r. quiet (message (messageOf m)) (removed (meaning r .table) (recordAt t i))) → Takes t m (heardFreed t (Took m) i)
+    unfolding A.taken tableLeft queueLeft
+    frees d st =
+        record {
+          place = h .place;
+          is = λ q se c ty sd e. let r = lent t q st se in sym (freed-is r ty sd c false _ n i h (e ∙ ap (apply (meaning r) false) (d q st se)));
+        }
 
 -- NO RECORD HAS THE NUMBER
 
-pub unknown-91 : (t : D.Table) (m : Confirmation) → look (m .recipient .0) (placesOf (t .used) (t .records)) ≡ nowhere → Takes t (OpenConfirmation m) (Refused Unknown) t
-unfolding G.takenIn A.messageOf A.refusalNumber
-unknown-91 t m e = refuses t (OpenConfirmation m) Unknown (λ q st se. none-known (lent t q st se) _ e _)
-
-pub unknown-92 : (t : D.Table) (m : Failure) → look (m .recipient .0) (placesOf (t .used) (t .records)) ≡ nowhere → Takes t (OpenFailure m) (Refused Unknown) t
-unfolding G.takenIn A.messageOf A.refusalNumber
-unknown-92 t m e = refuses t (OpenFailure m) Unknown (λ q st se. none-known (lent t q st se) _ e _)
-
-pub unknown-93 : (t : D.Table) (m : Adjust) → look (m .recipient .0) (placesOf (t .used) (t .records)) ≡ nowhere → Takes t (WindowAdjust m) (Refused Unknown) t
-unfolding G.takenIn A.messageOf A.refusalNumber
-unknown-93 t m e = refuses t (WindowAdjust m) Unknown (λ q st se. none-passes (lent t q st se) _ e serves _)
+pub unknown-is : (t : D.Table) (m : M.Message) → look (toWhom m) (placesOf (t .used) (t .records)) ≡ nowhere → Decides t m (λ r. refuse 2)
+unfolding G.takenIn A.messageOf toWhom
+unknown-is t (OpenConfirmation m) e q st se = none-known (lent t q st se) _ e _
+unknown-is t (OpenFailure m) e q st se = none-known (lent t q st se) _ e _
+unknown-is t (WindowAdjust m) e q st se = none-passes (lent t q st se) _ e serves _
+unknown-is t (Data m) e q st se = none-passes (lent t q st se) _ e serves _
+unknown-is t (Eof n) e q st se = none-passes (lent t q st se) _ e serves _
+unknown-is t (Close n) e q st se = none-passes (lent t q st se) _ e isConfirmed _
 
 -- A RECORD HAS IT
 
-module _ (t : D.Table) (m : Confirmation) (i : ℕ) (h : HeldAt t (m .recipient .0) i) where
-  pub already-91 : recordAt t i .confirmed ≡ true → Takes t (OpenConfirmation m) (Refused Already) t
+pub alike : {c r : Record} → c ≡ r → {b : Bool} → c .confirmed ≡ b → r .confirmed ≡ b
+alike d e = sym (ap (λ x. x .confirmed) d) ∙ e
+
+module _ (t : D.Table) (m : Confirmation) (i : ℕ) (c : Record) (h : Here t (m .recipient .0) i c) where
+  pub already-91 : c .confirmed ≡ true → Takes t (OpenConfirmation m) (heardSame t (Refused Already))
   unfolding G.takenIn A.messageOf A.refusalNumber
-  already-91 e = refuses t (OpenConfirmation m) Already (λ q st se. held-known (lent t q st se) _ i h _ ∙ if-true _ _ _ e)
+  already-91 e = refuses t _ Already (λ q st se. held-known (lent t q st se) _ i (h .0) _ ∙ if-true _ _ _ (alike (h .1) e))
 
-  pub took-91 : recordAt t i .confirmed ≡ false → Takes t (OpenConfirmation m) (Took (OpenConfirmation m)) (recordSet t i (confirm (recordAt t i) (m .sender .0) (m .window) (m .limit)))
-  unfolding Takes TakesWith A.taken A.messageOf G.takenIn
-  took-91 e q st se k ty sd d =
-      let r = lent t q st se in
-      sym (recorded-is r ty sd k false _ _ i h _ (d ∙ ap (apply (meaning r) false) (held-known r _ i h _ ∙ if-false _ _ _ e)))
+  pub took-91 : c .confirmed ≡ false → Takes t (OpenConfirmation m) (heardAt t (Took (OpenConfirmation m)) i (confirm c (m .sender .0) (m .window) (m .limit)))
+  unfolding G.takenIn A.messageOf
+  took-91 e = rw (h .1) (alters t _ i (h .0) _ (λ q st se. held-known (lent t q st se) _ i (h .0) _ ∙ if-false _ _ _ (alike (h .1) e)))
 
-module _ (t : D.Table) (m : Failure) (i : ℕ) (h : HeldAt t (m .recipient .0) i) where
-  pub already-92 : recordAt t i .confirmed ≡ true → Takes t (OpenFailure m) (Refused Already) t
+module _ (t : D.Table) (m : Failure) (i : ℕ) (c : Record) (h : Here t (m .recipient .0) i c) where
+  pub already-92 : c .confirmed ≡ true → Takes t (OpenFailure m) (heardSame t (Refused Already))
   unfolding G.takenIn A.messageOf A.refusalNumber
-  already-92 e = refuses t (OpenFailure m) Already (λ q st se. held-known (lent t q st se) _ i h _ ∙ if-true _ _ _ e)
+  already-92 e = refuses t _ Already (λ q st se. held-known (lent t q st se) _ i (h .0) _ ∙ if-true _ _ _ (alike (h .1) e))
 
-  pub took-92 : recordAt t i .confirmed ≡ false → Takes t (OpenFailure m) (Took (OpenFailure m)) (placeFreed t i)
-  unfolding Takes TakesWith A.taken A.messageOf G.takenIn
-  took-92 e q st se k ty sd d =
-      let r = lent t q st se in
-      sym (freed-is r ty sd k false _ _ i h (d ∙ ap (apply (meaning r) false) (held-known r _ i h _ ∙ if-false _ _ _ e)))
+  pub took-92 : c .confirmed ≡ false → Takes t (OpenFailure m) (heardFreed t (Took (OpenFailure m)) i)
+  unfolding G.takenIn A.messageOf
+  took-92 e = frees t _ i (h .0) (λ q st se. held-known (lent t q st se) _ i (h .0) _ ∙ if-false _ _ _ (alike (h .1) e))
 
-module _ (t : D.Table) (m : Adjust) (i : ℕ) (h : HeldAt t (m .recipient .0) i) where
-  pub unconfirmed-93 : recordAt t i .confirmed ≡ false → Takes t (WindowAdjust m) (Refused Unconfirmed) t
+module _ (t : D.Table) (m : Adjust) (i : ℕ) (c : Record) (h : Here t (m .recipient .0) i c) where
+  pub unconfirmed-93 : c .confirmed ≡ false → Takes t (WindowAdjust m) (heardSame t (Refused Unconfirmed))
   unfolding G.takenIn A.messageOf A.refusalNumber
-  unconfirmed-93 e = refuses t (WindowAdjust m) Unconfirmed (λ q st se. held-fails (lent t q st se) _ i h serves _ (serves-is _ ∙ e))
+  unconfirmed-93 e = refuses t _ Unconfirmed (λ q st se. held-fails (lent t q st se) _ i (h .0) serves _ (serves-is _ ∙ alike (h .1) e))
 
-  module _ (e : recordAt t i .confirmed ≡ true) where
-    over-93 : fits (recordAt t i) (m .add) ≡ false → Takes t (WindowAdjust m) (Refused Credit) t
+  -- by what the credit answered
+  module _ (e : c .confirmed ≡ true) (o : Credited) (a : o .answer ≡ creditAnswer c (m .add)) (d : o .«record» ≡ creditRecord c (m .add)) where
+    fits-here : {b : Bool} → fits c (m .add) ≡ b → fits (recordAt t i) (m .add) ≡ b
+    fits-here l = sym (ap (λ x. fits x (m .add)) (h .1)) ∙ l
+
+    over : fits c (m .add) ≡ false → Takes t (WindowAdjust m) (heardSame t (Refused Credit))
     unfolding G.takenIn A.messageOf A.refusalNumber
-    over-93 l = refuses t (WindowAdjust m) Credit (λ q st se. held-passes (lent t q st se) _ i h serves _ (serves-is _ ∙ e) ∙ if-false _ _ _ l)
+    over l = refuses t _ Credit (λ q st se. held-passes (lent t q st se) _ i (h .0) serves _ (serves-is _ ∙ alike (h .1) e) ∙ if-false _ _ _ (fits-here l))
 
-    took-93 : fits (recordAt t i) (m .add) ≡ true → Takes t (WindowAdjust m) (Took (WindowAdjust m)) (recordSet t i (withPeerWindow (recordAt t i) (recordAt t i .«recipient_window_size» + m .add)))
-    unfolding Takes TakesWith A.taken A.messageOf G.takenIn
-    took-93 l q st se k ty sd d =
-        let r = lent t q st se in
-        sym (recorded-is r ty sd k false _ _ i h _ (d ∙ ap (apply (meaning r) false) (held-passes r _ i h serves _ (serves-is _ ∙ e) ∙ if-true _ _ _ l)))
+    took : fits c (m .add) ≡ true → Takes t (WindowAdjust m) (heardAt t (Took (WindowAdjust m)) i (withPeerWindow c (c .«recipient_window_size» + m .add)))
+    unfolding G.takenIn A.messageOf
+    took l = rw (h .1) (alters t _ i (h .0) _ (λ q st se. held-passes (lent t q st se) _ i (h .0) serves _ (serves-is _ ∙ alike (h .1) e) ∙ if-true _ _ _ (fits-here l)))
 
-    pub credited-93 : Takes t (WindowAdjust m) (creditTaken (recordAt t i) m) (creditTable t i (recordAt t i) m)
-    unfolding creditTaken creditTable
-    credited-93 = by-test (fits (recordAt t i) (m .add)) (λ l. rw l (took-93 l)) (λ l. rw l (over-93 l))
+    pub took-93 : o .answer ≡ Done → Takes t (WindowAdjust m) (heardAt t (Took (WindowAdjust m)) i (o .«record»))
+    unfolding creditAnswer creditRecord
+    took-93 f =
+        by-test (fits c (m .add))
+        (λ y. rw (rw y at d) (took y))
+        (λ y. absurd (let z : Done ≡ Acted.Refused Credit = sym f ∙ rw y at a in let w : _≡_ {A = ℕ} 0 1 = cc in omega arith))
 
--- A MESSAGE THAT ALTERS NOTHING
+    pub over-93 : (k : Refusal) → o .answer ≡ Acted.Refused k → Takes t (WindowAdjust m) (heardSame t (Refused k))
+    unfolding creditAnswer
+    over-93 k f =
+        by-test (fits c (m .add))
+        (λ y. absurd (let z : Acted.Refused k ≡ Done = sym f ∙ rw y at a in let w : _≡_ {A = ℕ} 0 1 = cc in omega arith))
+        (λ y. let z : Acted.Refused k ≡ Acted.Refused Credit = sym f ∙ rw y at a in let w : k ≡ Credit = cc in rw w (over y))
 
-pub took-data : (t : D.Table) (m : ChannelData) → Served t (m .recipient .0) → Takes t (Data m) (Took (Data m)) t
-unfolding Takes TakesWith A.taken A.messageOf G.takenIn
-took-data t m s q st se k ty sd d =
-    let r = lent t q st se in
-    sym (same-is r ty sd k false _ (d ∙ ap (apply (meaning r) false) (held-passes r _ (s .place) (s .here) serves _ (s .serving))))
+-- a 94, 95 or 96
+module _ (t : D.Table) (i : ℕ) (c : Record) where
+  heard : (m : M.Message) (n : ℕ) → Here t n i c → Decides t m (λ r. passing serves (look n (meaning r .table .places)) (λ x. quiet (message (messageOf m)) (meaning r .table)))
+      → Takes t m (heardSame t (cond (c .confirmed) (Took m) (Refused Unconfirmed)))
+  unfolding A.refusalNumber
+  heard m n h d =
+      by-test (c .confirmed)
+      (λ e. rw e (hands t m (λ q st se. d q st se ∙ held-passes (lent t q st se) n i (h .0) serves _ (serves-is _ ∙ alike (h .1) e))))
+      (λ e. rw e (refuses t m Unconfirmed (λ q st se. d q st se ∙ held-fails (lent t q st se) n i (h .0) serves _ (serves-is _ ∙ alike (h .1) e))))
 
-pub took-eof : (t : D.Table) (n : ChannelId) → Served t (n .0) → Takes t (Eof n) (Took (Eof n)) t
-unfolding Takes TakesWith A.taken A.messageOf G.takenIn
-took-eof t n s q st se k ty sd d =
-    let r = lent t q st se in
-    sym (same-is r ty sd k false _ (d ∙ ap (apply (meaning r) false) (held-passes r _ (s .place) (s .here) serves _ (s .serving))))
+  pub data-is : (m : ChannelData) → Here t (m .recipient .0) i c → Takes t (Data m) (heardSame t (cond (c .confirmed) (Took (Data m)) (Refused Unconfirmed)))
+  unfolding G.takenIn A.messageOf
+  data-is m h = heard (Data m) (m .recipient .0) h (λ q st se. refl)
 
-pub not-data : (t : D.Table) (m : ChannelData) (k : Refusal) → Hears t (m .recipient .0) (Not k) → Takes t (Data m) (Refused k) t
-unfolding G.takenIn A.messageOf Hears
-not-data t m k h = refuses t (Data m) k (λ q st se. h q st se _)
-
-pub not-eof : (t : D.Table) (n : ChannelId) (k : Refusal) → Hears t (n .0) (Not k) → Takes t (Eof n) (Refused k) t
-unfolding G.takenIn A.messageOf Hears
-not-eof t n k h = refuses t (Eof n) k (λ q st se. h q st se _)
-
--- WHAT A CREDIT LEFT, by its answer
-
-module _ (c : Record) (m : Adjust) (o : Credited) (a : o .answer ≡ creditAnswer c (m .add)) (d : o .«record» ≡ creditRecord c (m .add)) (t : D.Table) (i : ℕ) where
-  pub credit-done : o .answer ≡ Done → (x : D.Table) → x ≡ recordSet t i (o .«record») → (Took (WindowAdjust m) ≡ creditTaken c m) × (x ≡ creditTable t i c m)
-  unfolding creditAnswer creditRecord creditTaken creditTable
-  credit-done e x f =
-      by-test (fits c (m .add))
-      (λ y. rw y (refl, f ∙ ap (recordSet t i) (rw y at d)))
-      (λ y. absurd (let z : Done ≡ Acted.Refused Credit = sym e ∙ rw y at a in let w : _≡_ {A = ℕ} 0 1 = cc in omega arith))
-
-  pub credit-over : (k : Refusal) → o .answer ≡ Acted.Refused k → (Refused k ≡ creditTaken c m) × (t ≡ creditTable t i c m)
-  unfolding creditAnswer creditTaken creditTable
-  credit-over k e =
-      by-test (fits c (m .add))
-      (λ y. absurd (let z : Acted.Refused k ≡ Done = sym e ∙ rw y at a in let w : _≡_ {A = ℕ} 0 1 = cc in omega arith))
-      (λ y. let z : Acted.Refused k ≡ Acted.Refused Credit = sym e ∙ rw y at a in let w : k ≡ Credit = cc in rw y (ap Refused w, refl))
-
--- WHAT WAS READ
-
-module _ (r : Raw) (p : List ℕ) where
-  pub malformed-is : Typed r → isSound r ≡ true → malformed ≡ readMessage p → called r (act (incoming p)) ≡ record { answer = A.refusal Malformed; state = r }
-  unfolding G.decide G.takenRead A.refusal A.refusalNumber
-  malformed-is ty sd e = refusing r ty sd (act (incoming p)) false 7 (by-act r (incoming p) (ap (takenRead (meaning r .table)) (sym e)))
-
-  pub read-is : (m : M.Message) → reads (messageOf m) ≡ readMessage p → step (meaning r) (act (incoming p)) ≡ apply (meaning r) false (takenIn (meaning r .table) (messageOf m))
-  unfolding G.decide G.takenRead
-  read-is m e = by-act r (incoming p) (ap (takenRead (meaning r .table)) (sym e))
+  pub eof-is : (n : ChannelId) → Here t (n .0) i c → Takes t (Eof n) (heardSame t (cond (c .confirmed) (Took (Eof n)) (Refused Unconfirmed)))
+  unfolding G.takenIn A.messageOf
+  eof-is n h = heard (Eof n) (n .0) h (λ q st se. refl)

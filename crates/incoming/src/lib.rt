@@ -1,48 +1,49 @@
 // Incoming messages: what reading one payload does to the table (document 01, Incoming).
 use channel::Acted;
 use channel::Adjust;
-use channel::ChannelData;
 use channel::ChannelId;
 use channel::Confirmation;
 use channel::Failure;
 use channel::Message;
-use channel::PeerNumber;
 use channel::Record;
 use channel::Refusal;
 use channel::Table;
 use channel::Taken;
+use channel::zero_record;
 use credit::add_credit;
 use frames::put_close;
-use lookup::Found;
-use lookup::find;
-use lookup::free_place;
-use lookup::with_record;
-use passes::drop_entries;
+use lookup::unmark;
+use passes::compact;
 use reading::Read;
 use reading::read_message;
-use soundness::sound;
+use soundness::Seen;
+use soundness::see;
 ghost use mathlib.Core.Path.{_≡_};
-ghost use mathlib.Core.Bool.{true};
-ghost use Prim.Native.Nat.{ℕ, _+_, _≤_, _<_};
-ghost use lib.ListN.{length};
+ghost use mathlib.Core.Bool.{true, cond};
+ghost use Prim.Native.Nat.{_<_};
 ghost use Rattle.laws.specs.Bits.{bit};
-ghost use Rattle.octets.specs.Buf.{write};
 ghost use Rattle.channel.specs.declared.Message.the-variants as M;
-ghost use Rattle.channel.specs.State.{placeCount, mostBytes, without};
-ghost use Rattle.channel.specs.Wire.{frame, closeMessage};
+ghost use Rattle.channel.specs.declared.Refusal.the-variants as R;
+ghost use Rattle.channel.specs.declared.Taken.the-variants as T;
+ghost use Rattle.channel.specs.State.{placeCount};
 ghost use Rattle.channel.specs.Call.{act, incoming};
 ghost use Rattle.channel.specs.Change.{confirm};
 ghost use Rattle.channel.specs.Called.{lent, outcome, called};
 ghost use Rattle.channel.specs.Answers.{taken};
-ghost use Rattle.lookup.specs.Update.{placeFreed, stagedMore};
-ghost use Rattle.passes.specs.Keep.{Base, queueWith, tableWith};
-ghost use Rattle.passes.specs.Pass.{entriesIn};
-ghost use Rattle.incoming.specs.Takes.{Takes, TakesWith, Hears, creditTaken, creditTable};
+ghost use Rattle.soundness.specs.declared.Seen.the-variants as S;
+ghost use Rattle.passes.specs.Keep.{Base};
+ghost use Rattle.incoming.specs.Takes.{heardAt, heardSame, heardFreed, queueLeft, tableLeft, toWhom, readFor, unheardOf, Here, Seeing, Takes, TakesWith, Comes};
 
-// Whether a channel can take a message, or why not.
-enum Heard {
-    Yes,
-    Not(Refusal),
+// What a message comes to: the answer, the used word, one place with its record, staged's used count, and whether the entries of a
+// number leave the queue. It is less than lookup's `Change`: with an entry in it the compiler copies the table once more.
+struct Heard {
+    answer: Taken,
+    used: u32,
+    at: usize,
+    params: Record,
+    staged_used: usize,
+    drops: bool,
+    number: u32,
 }
 
 // What `incoming` leaves.
@@ -71,231 +72,202 @@ fn confirmed_record(r: Record, m: Confirmation) -> Record
     }
 }
 
-// A 91 confirms a record that is not confirmed.
-fn take_confirmation(t: Table, m: Confirmation) -> Arrived
-    ensures { λ r. ⌜ Takes t (M.OpenConfirmation m) (r .answer) (r .table) ⌝ }
+// The record at place i is r, and nothing else changes.
+fn altered(t: Table, answer: Taken, i: usize, r: Record) -> Heard
+    ensures { λ h. ⌜ h ≡ heardAt t answer i r ⌝ }
 {
-    let here = find(t, m.recipient);
-    match here {
-        Found::At(i) => {
-            let c = t.records[i];
-            if c.confirmed {
-                return Arrived {
-                    answer: Taken::Refused(Refusal::Already),
-                    table: t,
-                };
-            }
-            let next = with_record(t, i, confirmed_record(c, m));
-            Arrived {
-                answer: Taken::Took(Message::OpenConfirmation(m)),
-                table: next,
-            }
-        }
-        Found::Nothing => Arrived {
-            answer: Taken::Refused(Refusal::Unknown),
-            table: t,
-        },
+    Heard {
+        answer,
+        used: t.used,
+        at: i,
+        params: r,
+        staged_used: t.staged_used,
+        drops: false,
+        number: 0,
     }
+}
+
+// Nothing changes: place 0 has the record that it had.
+fn unchanged(t: Table, answer: Taken) -> Heard
+    ensures { λ h. ⌜ h ≡ heardSame t answer ⌝ }
+{
+    altered(t, answer, 0, t.records[0])
+}
+
+// Nothing changes, and the message is refused.
+fn refuse(t: Table, k: Refusal) -> Heard
+    ensures { λ h. ⌜ h ≡ heardSame t (T.Refused k) ⌝ }
+{
+    unchanged(t, Taken::Refused(k))
+}
+
+// Place i is zero and free.
+fn freed(t: Table, answer: Taken, i: usize) -> Heard
+    requires { ⌜ (i < placeCount) × (bit (t .used) i ≡ true) ⌝ }
+    ensures { λ h. ⌜ h ≡ heardFreed t answer i ⌝ }
+{
+    let mut h = altered(t, answer, i, zero_record());
+    h.used = unmark(t.used, i);
+    h
+}
+
+// A 91 confirms a record that is not confirmed.
+fn take_confirmation(t: Table, i: usize, c: Record, m: Confirmation) -> Heard
+    requires { ⌜ Here t (m .recipient .0) i c ⌝ }
+    ensures { λ h. ⌜ Takes t (M.OpenConfirmation m) h ⌝ }
+{
+    if c.confirmed {
+        return refuse(t, Refusal::Already);
+    }
+    let d = confirmed_record(c, m);
+    altered(t, Taken::Took(Message::OpenConfirmation(m)), i, d)
 }
 
 // A 92 removes a record that is not confirmed.
-fn take_failure(t: Table, m: Failure) -> Arrived
-    ensures { λ r. ⌜ Takes t (M.OpenFailure m) (r .answer) (r .table) ⌝ }
+fn take_failure(t: Table, i: usize, c: Record, m: Failure) -> Heard
+    requires { ⌜ Here t (m .recipient .0) i c ⌝ }
+    ensures { λ h. ⌜ Takes t (M.OpenFailure m) h ⌝ }
 {
-    let here = find(t, m.recipient);
-    match here {
-        Found::At(i) => {
-            let c = t.records[i];
-            if c.confirmed {
-                return Arrived {
-                    answer: Taken::Refused(Refusal::Already),
-                    table: t,
-                };
+    if c.confirmed {
+        return refuse(t, Refusal::Already);
+    }
+    freed(t, Taken::Took(Message::OpenFailure(m)), i)
+}
+
+// A 93 adds credit to a confirmed record, if the window does not pass its limit.
+fn take_credit(t: Table, i: usize, c: Record, m: Adjust) -> Heard
+    requires { ⌜ Here t (m .recipient .0) i c ⌝ }
+    ensures { λ h. ⌜ Takes t (M.WindowAdjust m) h ⌝ }
+{
+    if c.confirmed {
+        let o = add_credit(c, m.add);
+        let answer = o.answer;
+        match answer {
+            Acted::Done => {
+                let d = o.record;
+                altered(t, Taken::Took(Message::WindowAdjust(m)), i, d)
             }
-            let next = free_place(t, i);
-            Arrived {
-                answer: Taken::Took(Message::OpenFailure(m)),
-                table: next,
-            }
+            Acted::Refused(k) => refuse(t, k),
         }
-        Found::Nothing => Arrived {
-            answer: Taken::Refused(Refusal::Unknown),
-            table: t,
-        },
+    } else {
+        refuse(t, Refusal::Unconfirmed)
     }
 }
 
-// The credit of a 93 to the record at place i.
-fn credit_at(t: Table, i: usize, c: Record, m: Adjust) -> Arrived
-    requires { ⌜ i < placeCount ⌝ }
-    ensures { λ r. ⌜ (r .answer ≡ creditTaken c m) × (r .table ≡ creditTable t i c m) ⌝ }
+// A 94, 95 or 96 alters nothing: a confirmed channel hands it on.
+fn hears(c: Record, m: Message) -> Taken
+    ensures { λ a. ⌜ a ≡ cond (c .confirmed) (T.Took m) (T.Refused R.Unconfirmed) ⌝ }
 {
-    let o = add_credit(c, m.add);
-    let answer = o.answer;
-    match answer {
-        Acted::Done => {
-            let d = o.record;
-            let next = with_record(t, i, d);
-            Arrived {
-                answer: Taken::Took(Message::WindowAdjust(m)),
-                table: next,
-            }
+    if c.confirmed {
+        return Taken::Took(m);
+    }
+    Taken::Refused(Refusal::Unconfirmed)
+}
+
+// A 97 to a confirmed channel stages a CLOSE, 9 bytes; the record and the channel's entries go. The bytes are put last: a store into a
+// lent buffer between two uses of a table costs a copy of it.
+fn take_close(t: Table, staged: &mut [u8], i: usize, c: Record, waits: bool, n: ChannelId) -> Heard
+    requires { ⌜ Seeing t (now staged) (n .0) (S.At i c waits) ⌝ }
+    ensures { λ h. ⌜ TakesWith t (now (staged .entry)) (M.Close n) h (now (staged .exit)) ⌝ }
+{
+    if c.confirmed {
+        if t.staged_used + 9 <= staged.len() {
+            let at = t.staged_used;
+            let mut h = freed(t, Taken::Took(Message::Close(n)), i);
+            h.staged_used = at + 9;
+            h.drops = waits;
+            h.number = n.0;
+            put_close(staged, at, c.recipient_channel);
+            return h;
         }
-        Acted::Refused(k) => Arrived {
-            answer: Taken::Refused(k),
-            table: t,
-        },
+        return refuse(t, Refusal::Room);
     }
+    refuse(t, Refusal::Unconfirmed)
 }
 
-// A 93 adds credit, if the window does not pass its limit.
-fn take_credit(t: Table, m: Adjust) -> Arrived
-    ensures { λ r. ⌜ Takes t (M.WindowAdjust m) (r .answer) (r .table) ⌝ }
-{
-    let here = find(t, m.recipient);
-    match here {
-        Found::At(i) => {
-            let c = t.records[i];
-            if c.confirmed {
-                return credit_at(t, i, c, m);
-            }
-            Arrived {
-                answer: Taken::Refused(Refusal::Unconfirmed),
-                table: t,
-            }
-        }
-        Found::Nothing => Arrived {
-            answer: Taken::Refused(Refusal::Unknown),
-            table: t,
-        },
-    }
-}
-
-// A 94, 95 or 96 alters nothing: whether its channel can hear it, or why not.
-fn hears(t: Table, n: ChannelId) -> Heard
-    ensures { λ h. ⌜ Hears t (n .0) h ⌝ }
-{
-    let here = find(t, n);
-    match here {
-        Found::At(i) => {
-            let c = t.records[i];
-            if c.confirmed {
-                return Heard::Yes;
-            }
-            Heard::Not(Refusal::Unconfirmed)
-        }
-        Found::Nothing => Heard::Not(Refusal::Unknown),
-    }
-}
-
-// A 94 or 95 is handed on.
-fn take_data(t: Table, m: ChannelData) -> Arrived
-    ensures { λ r. ⌜ Takes t (M.Data m) (r .answer) (r .table) ⌝ }
-{
-    let heard = hears(t, m.recipient);
-    match heard {
-        Heard::Yes => Arrived {
-            answer: Taken::Took(Message::Data(m)),
-            table: t,
-        },
-        Heard::Not(k) => Arrived {
-            answer: Taken::Refused(k),
-            table: t,
-        },
-    }
-}
-
-// A 96 is handed on.
-fn take_eof(t: Table, n: ChannelId) -> Arrived
-    ensures { λ r. ⌜ Takes t (M.Eof n) (r .answer) (r .table) ⌝ }
-{
-    let heard = hears(t, n);
-    match heard {
-        Heard::Yes => Arrived {
-            answer: Taken::Took(Message::Eof(n)),
-            table: t,
-        },
-        Heard::Not(k) => Arrived {
-            answer: Taken::Refused(k),
-            table: t,
-        },
-    }
-}
-
-// The CLOSE staged for the peer, the record's place freed, and the channel's entries out of the queue.
-fn end_channel(
-    t: Table,
-    queue: &mut [u8],
-    staged: &mut [u8],
-    i: usize,
-    peer: PeerNumber,
-    n: ChannelId,
-) -> Table
-    requires { ⌜ Base (t .entries) (t .«entry_count») (now queue) (t .«queue_used») ⌝ }
-    requires { ⌜ (i < placeCount) × (bit (t .used) i ≡ true) × (t .«staged_used» + 9 ≤ length (now staged)) × (t .«staged_used» ≤ mostBytes) ⌝ }
-    ensures { λ r. ⌜ now (queue .exit) ≡ queueWith (without (n .0) (entriesIn t (now (queue .entry)))) (t .«queue_used») (now (queue .entry)) ⌝ }
-    ensures { λ r. ⌜ now (staged .exit) ≡ write (t .«staged_used») (frame (closeMessage (peer .0))) (now (staged .entry)) ⌝ }
-    ensures { λ r. ⌜ r ≡ stagedMore (tableWith (without (n .0) (entriesIn t (now (queue .entry)))) (placeFreed t i)) 9 ⌝ }
-{
-    let at = t.staged_used;
-    put_close(staged, at, peer);
-    let freed = free_place(t, i);
-    let rest = drop_entries(freed, queue, n);
-    let mut next = rest;
-    next.staged_used = at + 9;
-    next
-}
-
-// A 97 stages a CLOSE, 9 bytes, and then drops the record and its entries.
-fn take_close(t: Table, queue: &mut [u8], staged: &mut [u8], n: ChannelId) -> Arrived
-    requires { ⌜ Base (t .entries) (t .«entry_count») (now queue) (t .«queue_used») ⌝ }
-    requires { ⌜ t .«staged_used» ≤ mostBytes ⌝ }
-    ensures { λ r. ⌜ TakesWith t (now (queue .entry)) (now (staged .entry)) (M.Close n) (r .answer) (r .table) (now (queue .exit)) (now (staged .exit)) ⌝ }
-{
-    let here = find(t, n);
-    match here {
-        Found::At(i) => {
-            let c = t.records[i];
-            if c.confirmed {
-                if t.staged_used + 9 <= staged.len() {
-                    let peer = c.recipient_channel;
-                    let next = end_channel(t, queue, staged, i, peer, n);
-                    return Arrived {
-                        answer: Taken::Took(Message::Close(n)),
-                        table: next,
-                    };
-                }
-                return Arrived {
-                    answer: Taken::Refused(Refusal::Room),
-                    table: t,
-                };
-            }
-            Arrived {
-                answer: Taken::Refused(Refusal::Unconfirmed),
-                table: t,
-            }
-        }
-        Found::Nothing => Arrived {
-            answer: Taken::Refused(Refusal::Unknown),
-            table: t,
-        },
-    }
-}
-
-// A message that was read, by its kind.
-fn take_in(t: Table, queue: &mut [u8], staged: &mut [u8], m: Message) -> Arrived
-    requires { ⌜ Base (t .entries) (t .«entry_count») (now queue) (t .«queue_used») ⌝ }
-    requires { ⌜ t .«staged_used» ≤ mostBytes ⌝ }
-    ensures { λ r. ⌜ TakesWith t (now (queue .entry)) (now (staged .entry)) m (r .answer) (r .table) (now (queue .exit)) (now (staged .exit)) ⌝ }
+// A message to the record at place i, by its kind.
+fn take_in(t: Table, staged: &mut [u8], i: usize, c: Record, waits: bool, m: Message) -> Heard
+    requires { ⌜ Seeing t (now staged) (toWhom m) (S.At i c waits) ⌝ }
+    ensures { λ h. ⌜ TakesWith t (now (staged .entry)) m h (now (staged .exit)) ⌝ }
 {
     match m {
-        Message::OpenConfirmation(x) => take_confirmation(t, x),
-        Message::OpenFailure(x) => take_failure(t, x),
-        Message::WindowAdjust(x) => take_credit(t, x),
-        Message::Data(x) => take_data(t, x),
-        Message::Eof(n) => take_eof(t, n),
-        Message::Close(n) => take_close(t, queue, staged, n),
+        Message::OpenConfirmation(x) => take_confirmation(t, i, c, x),
+        Message::OpenFailure(x) => take_failure(t, i, c, x),
+        Message::WindowAdjust(x) => take_credit(t, i, c, x),
+        Message::Data(_) => unchanged(t, hears(c, m)),
+        Message::Eof(_) => unchanged(t, hears(c, m)),
+        Message::Close(n) => take_close(t, staged, i, c, waits, n),
     }
+}
+
+// The number that a message is for; 0 for what is malformed, where only whether the state is sound matters.
+fn recipient(read: Read) -> ChannelId
+    ensures { λ n. ⌜ n .0 ≡ readFor read ⌝ }
+{
+    match read {
+        Read::Malformed => ChannelId(0),
+        Read::Reads(m) => match m {
+            Message::OpenConfirmation(x) => x.recipient,
+            Message::OpenFailure(x) => x.recipient,
+            Message::WindowAdjust(x) => x.recipient,
+            Message::Data(x) => x.recipient,
+            Message::Eof(n) => n,
+            Message::Close(n) => n,
+        },
+    }
+}
+
+// Why a payload is refused where no record has its number.
+fn unheard(read: Read) -> Refusal
+    ensures { λ k. ⌜ k ≡ unheardOf read ⌝ }
+{
+    match read {
+        Read::Malformed => Refusal::Malformed,
+        Read::Reads(_) => Refusal::Unknown,
+    }
+}
+
+// What a payload comes to, by what was seen of the state and of its channel.
+fn take(t: Table, staged: &mut [u8], seen: Seen, read: Read) -> Heard
+    requires { ⌜ Seeing t (now staged) (readFor read) seen ⌝ }
+    ensures { λ h. ⌜ Comes t (now (staged .entry)) seen read h (now (staged .exit)) ⌝ }
+{
+    match seen {
+        Seen::Unsound => refuse(t, Refusal::State),
+        Seen::Unknown => refuse(t, unheard(read)),
+        Seen::At(i, c, waits) => match read {
+            Read::Malformed => refuse(t, Refusal::Malformed),
+            Read::Reads(m) => take_in(t, staged, i, c, waits, m),
+        },
+    }
+}
+
+// The table with what a message came to, and the queue without the entries that go. Every way alters this one copy of the table: one
+// that lookup's `changed` gives back, altered again, is copied again.
+fn finish(t: Table, queue: &mut [u8], h: Heard) -> Table
+    requires { ⌜ h .at < placeCount ⌝ }
+    requires { ⌜ (h .drops ≡ true → Base (t .entries) (t .«entry_count») (now queue) (t .«queue_used»)) ⌝ }
+    ensures { λ r. ⌜ r ≡ tableLeft t (now (queue .entry)) h ⌝ }
+    ensures { λ _. ⌜ now (queue .exit) ≡ queueLeft t (now (queue .entry)) h ⌝ }
+{
+    let mut next = t;
+    let at = h.at;
+    let params = h.params;
+    next.used = h.used;
+    next.records[at] = params;
+    next.staged_used = h.staged_used;
+    if h.drops {
+        let es = t.entries;
+        let used = t.queue_used;
+        let n = ChannelId(h.number);
+        let k = compact(es, t.entry_count, queue, used, n, used);
+        let rest = k.entries;
+        next.entries = rest;
+        next.entry_count = k.count;
+        next.queue_used = k.used;
+        return next;
+    }
+    next
 }
 
 // One payload is read and acted on: its message is the answer.
@@ -309,19 +281,11 @@ pub fn incoming(
     ensures { λ r. ⌜ outcome (taken (r .answer)) (r .table) (now (queue .exit)) (now (staged .exit)) (now (sent .exit))
         ≡ called (lent t (now (queue .entry)) (now (staged .entry)) (now (sent .entry))) (act (incoming (now (payload .entry)))) ⌝ }
 {
-    if sound(t, &queue[..], &staged[..], sent) {
-        let read = read_message(payload);
-        match read {
-            Read::Malformed => Arrived {
-                answer: Taken::Refused(Refusal::Malformed),
-                table: t,
-            },
-            Read::Reads(m) => take_in(t, queue, staged, m),
-        }
-    } else {
-        Arrived {
-            answer: Taken::Refused(Refusal::State),
-            table: t,
-        }
-    }
+    let read = read_message(payload);
+    let n = recipient(read);
+    let seen = see(t, &queue[..], &staged[..], sent, n);
+    let h = take(t, staged, seen, read);
+    let answer = h.answer;
+    let table = finish(t, queue, h);
+    Arrived { answer, table }
 }

@@ -154,7 +154,7 @@ fn mark(used: u32, i: usize) -> u32
 }
 
 // The word with the set bit i cleared.
-fn unmark(used: u32, i: usize) -> u32
+pub fn unmark(used: u32, i: usize) -> u32
     requires { ⌜ (i < placeCount) × (bit used i ≡ true) ⌝ }
     ensures { λ r. ⌜ r ≡ used - 2 ^ i ⌝ }
 {

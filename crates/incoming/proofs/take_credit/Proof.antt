@@ -1,57 +1,55 @@
--- `incoming::take_credit` meets its contract: each return cites the law for what was found (`Taking`).
+-- `incoming::take_credit` meets its contract: each return cites the law for what was found and answered (`Taking`).
 -- Assumes nothing.
-use mathlib.Core.Path.{_≡_}
-use native.Mathlib.Omega.{arith}
-use Rattle.channel.specs.Raw as R
-use Rattle.lookup.specs.Held as H
-use Rattle.incoming.proofs.Taking as K
 use borrow.Author.Needs.{needs}
+use Rattle.incoming.proofs.Taking as K
 use Rattle.incoming.proofs.take_credit.Statement.{statement}
 use Rattle.incoming.proofs.take_credit.Tie as tie
 
-find-requires : tie.Need-find-requires
-find-requires c κs = search needs
-
-enum-known-here : tie.Need-enum-known-here
-enum-known-here c = search needs
-
-mul-c : tie.Need-mul-c
-unfolding H.Finds
-mul-c c = let h = rw (c .before .here .given .1) at (c .before .before .before .find .ensures) in omega (arith, h .place)
-
-element-copy-out-c : tie.Need-element-copy-out-c
-unfolding H.Finds
-element-copy-out-c c = let h = rw (c .before .here .given .1) at (c .before .before .before .find .ensures) in h .place
-
-credit-at-requires : tie.Need-credit-at-requires
-unfolding H.Finds
-credit-at-requires c κs = let h = rw (c .before .before .before .here .given .1) at (c .before .before .before .before .before .find .ensures) in h .place
-
-returns : tie.Need-returns
-unfolding H.Finds R.zeroRecord
-returns c = let s = c .before .before .before .before .before .before .before in rw (c .credit-at .ensures .0, c .credit-at .ensures .1) (K.credited-93 (s .args .t1) (s .args .m) _ (rw (c .before .before .before .before .here .given .1) at (c .before .before .before .before .before .before .find .ensures)) (c .before .if1 .taken))
+add-credit-requires : tie.Need-add-credit-requires
+add-credit-requires c κs = search needs
 
 enum-told : tie.Need-enum-told
 enum-told c = search needs
 
+altered-requires : tie.Need-altered-requires
+altered-requires c κs = search needs
+
+enum-known-answer : tie.Need-enum-known-answer
+enum-known-answer c = search needs
+
+refuse-requires : tie.Need-refuse-requires
+refuse-requires c κs = search needs
+
+refuse-requires-2 : tie.Need-refuse-requires-2
+refuse-requires-2 c κs = search needs
+
+returns : tie.Need-returns
+returns c =
+    let b = c .before .before .before .before in
+    let s = b .before .before in
+    let o = b .add-credit in
+    rw (c .altered .ensures) (K.took-93 (s .args .t) (s .args .m) _ _ (s .pre) (b .before .if1 .taken) (o .result) (o .ensures .0) (o .ensures .1) (c .before .before .enum-told .given .1))
+
 returns-2 : tie.Need-returns-2
-unfolding H.Finds R.zeroRecord
-returns-2 c = let s = c .before .before .before .before .before .before in K.unconfirmed-93 (s .args .t1) (s .args .m) _ (rw (c .before .before .before .here .given .1) at (c .before .before .before .before .before .find .ensures)) (c .if1 .left)
+returns-2 c =
+    let b = c .before .before .before .before in
+    let s = b .before .before in
+    let o = b .add-credit in
+    rw (c .refuse .ensures) (K.over-93 (s .args .t) (s .args .m) _ _ (s .pre) (b .before .if1 .taken) (o .result) (o .ensures .0) (o .ensures .1) _ (c .before .before .answer .given .1))
 
 returns-3 : tie.Need-returns-3
-unfolding H.Finds
-returns-3 c = let s = c .before .before .before in K.unknown-93 (s .args .t1) (s .args .m) (rw (c .enum-told .given .1) at (c .before .before .find .ensures))
+returns-3 c = let s = c .before .before in rw (c .refuse2 .ensures) (K.unconfirmed-93 (s .args .t) (s .args .m) _ _ (s .pre) (c .before .if1 .left))
 
 pub take-credit-spec : {M : Type 1} → statement M
 take-credit-spec =
     tie.close
     (tie.spec
-    find-requires
-    enum-known-here
-    mul-c
-    element-copy-out-c
-    credit-at-requires
-    returns
+    add-credit-requires
     enum-told
+    altered-requires
+    enum-known-answer
+    refuse-requires
+    refuse-requires-2
+    returns
     returns-2
     returns-3)
