@@ -34,8 +34,8 @@ ghost use Rattle.soundness.specs.declared.Seen.the-variants as S;
 ghost use Rattle.passes.specs.Keep.{Base};
 ghost use Rattle.incoming.specs.Takes.{heardAt, heardSame, heardFreed, queueLeft, tableLeft, toWhom, readFor, unheardOf, Here, Seeing, Takes, TakesWith, Comes};
 
-// What a message comes to: the answer, the used word, one place with its record, staged's used count, and whether the channel's
-// entries leave the queue. It is less than lookup's `Change`: with an entry in it the compiler copies the table once more.
+// What a message comes to: the answer, the used word, one place with its record, staged's used count, and whether the entries of a
+// number leave the queue. It is less than lookup's `Change`: with an entry in it the compiler copies the table once more.
 struct Heard {
     answer: Taken,
     used: u32,
@@ -200,7 +200,7 @@ fn take_in(t: Table, staged: &mut [u8], i: usize, c: Record, waits: bool, m: Mes
     }
 }
 
-// The number that a message is for; of what is malformed, any.
+// The number that a message is for; 0 for what is malformed, where only whether the state is sound matters.
 fn recipient(read: Read) -> ChannelId
     ensures { λ n. ⌜ n .0 ≡ readFor read ⌝ }
 {
@@ -242,7 +242,8 @@ fn take(t: Table, staged: &mut [u8], seen: Seen, read: Read) -> Heard
     }
 }
 
-// The table with what a message came to, and the queue without the entries that go. One copy of the table is changed on every way.
+// The table with what a message came to, and the queue without the entries that go. Every way alters this one copy of the table: one
+// that lookup's `changed` gives back, altered again, is copied again.
 fn finish(t: Table, queue: &mut [u8], h: Heard) -> Table
     requires { ⌜ h .at < placeCount ⌝ }
     requires { ⌜ (h .drops ≡ true → Base (t .entries) (t .«entry_count») (now queue) (t .«queue_used»)) ⌝ }
