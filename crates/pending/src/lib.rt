@@ -86,10 +86,10 @@ pub struct Turn {
     pub table: Table,
 }
 
-// What a pending flush of all gives back.
+// What a pending flush of all gives back. The table stands first: behind the answer the compiler copies it twice more into the reply.
 pub struct AllFlushing {
-    pub answer: AllFlushed,
     pub table: Table,
+    pub answer: AllFlushed,
 }
 
 // THE CARRY-OUT
