@@ -365,11 +365,3 @@ pub fn is_sound(s: Seen) -> bool
         Seen::At(_, _, _) => true,
     }
 }
-
-// Whether a state is sound.
-pub fn sound(t: Table, queue: &[u8], staged: &[u8], sent: &[u8]) -> bool
-    ensures { λ b. ⌜ Tested t (now (queue .entry)) (now (staged .entry)) (now (sent .entry)) b ⌝ }
-{
-    let seen = see(t, queue, staged, sent, ChannelId(0));
-    is_sound(seen)
-}
