@@ -18,7 +18,7 @@ ghost use Rattle.laws.specs.Bits.{bit};
 ghost use Rattle.channel.specs.State.{placeCount, numbersInAll};
 ghost use Rattle.channel.specs.Sound.{isZero, isZeroEntry, isMarked, distinct, wholeFrames};
 ghost use Rattle.channel.specs.Called.{lent};
-ghost use Rattle.soundness.specs.Tested.{Tested, Sized, placesIn, limited, LookedOver, EntriesTold, marksSound};
+ghost use Rattle.soundness.specs.Tested.{Sized, placesIn, limited, LookedOver, EntriesTold, marksSound};
 ghost use Rattle.soundness.specs.Sees.{Sees, soundly};
 
 // Every field is zero.
