@@ -22,7 +22,7 @@ use Rattle.channel.specs.Decide.{Flushed, flushed, anyByte, Plan, none, Decisio
 use Rattle.channel.specs.Decide as D
 use Rattle.channel.specs.Step.{reply, Room, enough, lacks, roomFor, withRoom, goesStraight, apply, stepLoad, step, insert, numbers, isRefusal, stopAt, either, flushEach}
 use Rattle.channel.specs.Step as P
-use Rattle.channel.specs.Raw.{Raw, meaning, written, pendingOf}
+use Rattle.channel.specs.Raw.{Raw, meaning, written, entriesOf, pendingOf}
 use Rattle.channel.specs.Raw as R
 use Rattle.channel.specs.Sound.{isSound, isMarked}
 use Rattle.channel.specs.Called.{Typed, Outcome, called}
@@ -35,7 +35,8 @@ use Rattle.channel.proofs.Sound as U
 use Rattle.channel.proofs.SoundStep.{step-sound}
 use Rattle.channel.proofs.Meaning.{meaning-written}
 use Rattle.channel.proofs.Faithful.{written-meaning, sound-meaning}
-use Rattle.lookup.proofs.Decided.{if-true, if-false}
+use Rattle.lookup.specs.Held.{HeldAt, recordAt}
+use Rattle.lookup.proofs.Decided.{if-true, if-false, held-look, held-has}
 use Rattle.lookup.proofs.Branch.{sound-step, same-is}
 use Rattle.channel.specs.declared.ChannelFlushResult.{ChannelFlushResult}
 use Rattle.channel.specs.declared.ChannelFlushResult.the-variants as Flush
@@ -336,6 +337,13 @@ module _ (r : Raw) (ty : Typed r) (sd : isSound r ≡ true) (route : Route) wher
       let b = goesStraight (direct route) (meaning r) in
       let d : load (meaning r .table) (route .rekey) (flush (numberOf c)) ≡ quiet (complete 0 false false) (meaning r .table) = rw f (flush-idle (meaning r .table) c h ∙ whole-idle (meaning r .table) c (m .0) (m .1) f) in
       sym (same-is r ty sd (put route (flush (numberOf c))) b (complete 0 false false) (ap (apply (meaning r) b) d))
+
+  -- as the code finds it
+  pub idle-is : (n i : ℕ) → HeldAt (r .held) n i → anyEntry n (entriesOf (r .held .«entry_count») (r .held .entries) []) ≡ false
+      → record { answer = gave (complete 0 false false); state = r } ≡ called r (put route (flush n))
+  idle-is n i h e =
+      idle-called (recordAt (r .held) i) (ap (λ m. look m (meaning r .table .places)) (h .number) ∙ held-look r n i h) (held-has r n i h ∙ e)
+      ∙ ap (λ m. called r (put route (flush m))) (h .number)
 
   pub skip : (n : ℕ) → isUsed n (meaning r .table .places) ≡ true → anyEntry n (meaning r .table .entries) ≡ false → (ns : List ℕ) → flushEach route (n ∷ ns) (meaning r) ≡ flushEach route ns (meaning r)
   skip n u h ns = pick (look n (meaning r .table .places)) refl

@@ -2,7 +2,7 @@
 -- Assumes nothing.
 use Prim.Native.Nat.{ℕ, _+_, _-_, _^_, _≤_, _<_}
 use mathlib.Core.Path.{_≡_, refl, sym, ap, ap₂, _∙_}
-use mathlib.Core.Bool.{Bool, true, false, _&&_, not}
+use mathlib.Core.Bool.{Bool, true, false, _&&_, not, true≢false}
 use mathlib.Core.List.{List, _++_}
 use lib.ListN.{length, set, length-append}
 use lib.Dec.{eqb}
@@ -249,9 +249,9 @@ pub known-seen : (r : Raw) (n : ℕ) (s : Seen) → SeenAs (r .held) (r .queue) 
 unfolding SeenAs Known
 known-seen r n Unsound h = h
 known-seen r n Unknown h = h
-known-seen r n (At i c waits) h = (h .sound, h .held, h .record-is)
+known-seen r n (At i c waits) h = (h .sound, h .held, h .record-is, λ e. sym (h .waits-is) ∙ e)
 
 pub known-seat : (r : Raw) (n : ℕ) (s : Seat) → isSound r ≡ true → Seats (r .held .used) (r .held .records) n s → Known r n (seenOf s)
 unfolding Seats Known seenOf
 known-seat r n S.Nothing sd h = (sd, h)
-known-seat r n (S.At i c) sd h = (sd, h .0, h .1)
+known-seat r n (S.At i c) sd h = (sd, h .0, h .1, λ e. absurd (true≢false e))

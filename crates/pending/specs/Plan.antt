@@ -8,11 +8,11 @@ use lib.ListN.{length, take, set}
 use Rattle.channel.specs.declared.Record.{Record}
 use Rattle.channel.specs.declared.Table as D
 use Rattle.channel.specs.Wire.{frames, eofMessage, closeMessage}
-use Rattle.channel.specs.State.{placeCount, Table, peerOf, look, nowhere}
+use Rattle.channel.specs.State.{placeCount, Table, peerOf, look, nowhere, anyEntry}
 use Rattle.channel.specs.Call.{Call, Result, incomplete, complete}
 use Rattle.channel.specs.Change.{withPeerWindow, withMarks, withEntries, altered}
 use Rattle.channel.specs.Decide.{Plan, none, Flushed, unmarked}
-use Rattle.channel.specs.Raw.{Raw, placesOf, zeroRecord}
+use Rattle.channel.specs.Raw.{Raw, placesOf, entriesOf, zeroRecord}
 use Rattle.channel.specs.Sound.{isSound}
 use Rattle.channel.specs.Called.{Typed, Outcome, called}
 use Rattle.laws.specs.Bits.{bit}
@@ -123,12 +123,14 @@ filledBy t l =
       «sent_used» = l .«sent_used»;
     }
 
--- WHAT IS KNOWN of a channel: that the state is not sound, or that it is and where its record stands, if it has one
+-- WHAT IS KNOWN of a channel: that the state is not sound, or that it is and where its record stands, if it has one; `waits` is false
+-- only where the channel has no entry
 
 unfoldable pub Known : Raw → ℕ → Seen → Type 0
 Known r n Unsound = isSound r ≡ false
 Known r n Unknown = (isSound r ≡ true) × (look n (placesOf (r .held .used) (r .held .records)) ≡ nowhere)
-Known r n (At i c waits) = (isSound r ≡ true) × HeldAt (r .held) n i × (c ≡ recordAt (r .held) i)
+Known r n (At i c waits) =
+    (isSound r ≡ true) × HeldAt (r .held) n i × (c ≡ recordAt (r .held) i) × (waits ≡ false → anyEntry n (entriesOf (r .held .«entry_count») (r .held .entries) []) ≡ false)
 
 -- a place, as what is seen of a sound state
 unfoldable pub seenOf : Seat → Seen

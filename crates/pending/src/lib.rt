@@ -34,7 +34,7 @@ ghost use Rattle.octets.specs.Buf.{write};
 ghost use Rattle.channel.specs.Wire.{frames};
 ghost use Rattle.channel.specs.State.{mostEntries, mostBytes, placeCount, numbersInAll};
 ghost use Rattle.laws.specs.Bits.{bit};
-ghost use Rattle.channel.specs.Call.{gave, Route, direct, put, flush, flushAll};
+ghost use Rattle.channel.specs.Call.{gave, complete, Route, direct, put, flush, flushAll};
 ghost use Rattle.channel.specs.Call as Call;
 ghost use Rattle.channel.specs.Step.{goesStraight};
 ghost use Rattle.channel.specs.Raw as R;
@@ -278,13 +278,13 @@ fn typed(t: Table, queue: &[u8], staged: &[u8], sent: &[u8])
     lend(staged);
 }
 
-// A refusal, which changes nothing.
-fn refused(t: Table, k: Refusal) -> Done
-    ensures { λ d. ⌜ (Ans.flushed (d .answer) ≡ Ans.refusal k) × (filledBy t (d .left) ≡ t) × (d .left .at < placeCount) ⌝ }
+// An answer, and nothing changed.
+fn keep(t: Table, answer: ChannelFlushResult) -> Done
+    ensures { λ d. ⌜ (d .answer ≡ answer) × (filledBy t (d .left) ≡ t) × (d .left .at < placeCount) ⌝ }
 {
     let es = t.entries;
     Done {
-        answer: ChannelFlushResult::Refused(k),
+        answer,
         left: Left {
             used: t.used,
             at: 0,
@@ -298,6 +298,25 @@ fn refused(t: Table, k: Refusal) -> Done
             sent_used: t.sent_used,
         },
     }
+}
+
+// A refusal.
+fn refused(t: Table, k: Refusal) -> Done
+    ensures { λ d. ⌜ (Ans.flushed (d .answer) ≡ Ans.refusal k) × (filledBy t (d .left) ≡ t) × (d .left .at < placeCount) ⌝ }
+{
+    keep(t, ChannelFlushResult::Refused(k))
+}
+
+// The flush of a channel that has no entry: a sound state has no mark of it.
+fn idle(t: Table) -> Done
+    ensures { λ d. ⌜ (Ans.flushed (d .answer) ≡ gave (complete 0 false false)) × (filledBy t (d .left) ≡ t) × (d .left .at < placeCount) ⌝ }
+{
+    let nothing = Completed {
+        wrote: 0,
+        pending_eof: false,
+        pending_close: false,
+    };
+    keep(t, ChannelFlushResult::Complete(nothing))
 }
 
 // A sound state's flush of the record c at place i into staged, by whatever route leads there.
@@ -379,7 +398,13 @@ fn flush_staged(
     match seen {
         Seen::Unsound => refused(t, Refusal::State),
         Seen::Unknown => refused(t, Refusal::Unknown),
-        Seen::At(i, c, _) => stage_at(t, i, c, queue, staged, sent, number),
+        Seen::At(i, c, waits) => {
+            if waits {
+                stage_at(t, i, c, queue, staged, sent, number)
+            } else {
+                idle(t)
+            }
+        }
     }
 }
 
@@ -400,7 +425,13 @@ fn flush_straight(
     match seen {
         Seen::Unsound => refused(t, Refusal::State),
         Seen::Unknown => refused(t, Refusal::Unknown),
-        Seen::At(i, c, _) => send_at(t, i, c, queue, staged, sent, number),
+        Seen::At(i, c, waits) => {
+            if waits {
+                send_at(t, i, c, queue, staged, sent, number)
+            } else {
+                idle(t)
+            }
+        }
     }
 }
 

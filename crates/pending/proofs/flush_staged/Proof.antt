@@ -1,4 +1,4 @@
--- `pending::flush_staged` meets its contract: one law of CallLaws for each of what can be known.
+-- `pending::flush_staged` meets its contract: one law for each of what can be known.
 -- Assumes nothing.
 use mathlib.Core.Path.{sym, _∙_}
 use borrow.Author.Needs.{needs}
@@ -8,6 +8,7 @@ use Rattle.channel.specs.Answers as A
 use Rattle.lookup.proofs.Branch.{unsound, refusal-is}
 use Rattle.pending.specs.Plan.{Known}
 use Rattle.pending.proofs.CallLaws.{unknown-is}
+use Rattle.pending.proofs.AllLaws.{idle-is}
 use Rattle.pending.proofs.flush_staged.Statement.{statement}
 use Rattle.pending.proofs.flush_staged.Tie as tie
 
@@ -35,10 +36,13 @@ enum-known-seen c = search needs
 stage-at-requires : tie.Need-stage-at-requires
 unfolding Known
 stage-at-requires c κs =
-    let s = c .before .before .before in
+    let s = c .before .before .before .before in
     let t = s .before .before in
     let h = rw (s .seen .given .1) at (t .before .before .before .before .before .before .pre) in
     ((h .0, t .typed .ensures), (h .1, h .2))
+
+idle-requires : tie.Need-idle-requires
+idle-requires c κs = search needs
 
 same-length : tie.Need-same-length
 same-length c = search needs
@@ -76,9 +80,23 @@ returns-3 : tie.Need-returns-3
 unfolding Known
 returns-3 c =
     let e = c .before .before .before .before .stage-at .ensures in
-    let s = c .before .before .before .before .before .before .before .before in
+    let s = c .before .before .before .before .before .before .before .before .before in
     let h = rw (s .seen .given .1) at (s .before .before .before .before .before .before .before .before .pre) in
     (λ route w. e .0 route (w (h .0)), e .1)
+
+same-length-7 : tie.Need-same-length-7
+same-length-7 c = search needs
+
+same-length-8 : tie.Need-same-length-8
+same-length-8 c = search needs
+
+returns-4 : tie.Need-returns-4
+unfolding Known
+returns-4 c =
+    let s = c .before .before .before in
+    let t = s .before .before in
+    let h = rw (s .seen .given .1) at (t .before .before .before .before .before .before .pre) in
+    (λ route w. refusal-is (state t) (c .idle .ensures .0) (c .idle .ensures .1) ∙ idle-is (state t) (t .typed .ensures) (h .0) route _ _ (h .1) (h .3 (c .before .if1 .left)), c .idle .ensures .2)
 
 pub flush-staged-spec : {M : Type 1} → statement M
 flush-staged-spec =
@@ -91,6 +109,7 @@ flush-staged-spec =
     refused-requires-2
     enum-known-seen
     stage-at-requires
+    idle-requires
     same-length
     same-length-2
     returns
@@ -99,4 +118,7 @@ flush-staged-spec =
     returns-2
     same-length-5
     same-length-6
-    returns-3)
+    returns-3
+    same-length-7
+    same-length-8
+    returns-4)

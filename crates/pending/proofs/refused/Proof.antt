@@ -1,20 +1,17 @@
--- `pending::refused` meets its contract: the record that is stored is the one that was there.
+-- `pending::refused` meets its contract: the answer is kept.
 -- Assumes nothing.
-use mathlib.Core.Path.{refl}
-use native.Mathlib.Omega.{arith}
+use mathlib.Core.Path.{ap}
 use borrow.Author.Needs.{needs}
-use Rattle.channel.specs.Raw as R
 use Rattle.channel.specs.Answers as A
-use Rattle.pending.proofs.CallLaws.{as-it-was}
 use Rattle.pending.proofs.refused.Statement.{statement}
 use Rattle.pending.proofs.refused.Tie as tie
 
-element-copy-out-t9 : tie.Need-element-copy-out-t9
-element-copy-out-t9 c = search needs
+keep-requires : tie.Need-keep-requires
+keep-requires c κs = search needs
 
 returns : tie.Need-returns
-unfolding A.flushed A.refusal R.zeroRecord
-returns c = (refl, as-it-was (c .before .before .args .t1), omega arith)
+unfolding A.flushed A.refusal
+returns c = let k = c .keep .ensures in (ap A.flushed (k .0), k .1, k .2)
 
 pub refused-spec : {M : Type 1} → statement M
-refused-spec = tie.close (tie.spec element-copy-out-t9 returns)
+refused-spec = tie.close (tie.spec keep-requires returns)
