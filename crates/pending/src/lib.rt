@@ -51,20 +51,21 @@ pub struct Flushing {
     pub table: Table,
 }
 
-// What a flush leaves of a table: the word of used marks, the one record that may have changed, the entries, and the used counts.
+// What a flush leaves of a table: the entries, the used counts, the word of used marks, and the one record that may have changed.
+// The entries stand first, here and in `Done`: the compiler copies them once less.
 struct Left {
-    used: u32,
-    at: usize,
-    params: Record,
     kept: Kept,
     staged_used: usize,
     sent_used: usize,
+    used: u32,
+    at: usize,
+    params: Record,
 }
 
-// What a pending flush answers, and what it leaves of the table.
+// What a pending flush leaves of the table, and what it answers.
 struct Done {
-    answer: ChannelFlushResult,
     left: Left,
+    answer: ChannelFlushResult,
 }
 
 // The lowest number that has an entry, if there is one.
