@@ -1,8 +1,6 @@
 -- The numbers lose nothing: every answer that a call can give is read back from them.
 -- Assumes nothing.
-use Prim.Native.Nat.{ℕ}
-use mathlib.Core.Path.{◌≡◌, refl}
-use mathlib.Core.Bool.{Bool, true, false}
+use Rattle.std.proofs.Common.{◌≡◌, ℕ, Bool, true, false, refl}
 use Rattle.channel.specs.declared.Kind.{Kind}
 use Rattle.channel.specs.declared.Kind.TheVariants.{Plain, Extended}
 use Rattle.channel.specs.declared.Refusal.{Refusal}
@@ -10,21 +8,15 @@ use Rattle.channel.specs.declared.Refusal.TheVariants as R
 use Rattle.channel.specs.declared.Message as M
 use Rattle.channel.specs.declared.Message.TheVariants as Message
 use Rattle.channel.specs.declared.Picked.{Picked}
-use Rattle.channel.specs.declared.Picked.TheVariants as Picked
 use Rattle.channel.specs.declared.Acted.{Acted}
-use Rattle.channel.specs.declared.Acted.TheVariants as Acted
 use Rattle.channel.specs.declared.Sent.{Sent}
-use Rattle.channel.specs.declared.Sent.TheVariants as Sent
 use Rattle.channel.specs.declared.Charged.{Charged}
-use Rattle.channel.specs.declared.Charged.TheVariants as Charged
 use Rattle.channel.specs.declared.ChannelFlushResult.{ChannelFlushResult}
 use Rattle.channel.specs.declared.ChannelFlushResult.TheVariants as Flush
 use Rattle.channel.specs.declared.AllFlushed.{AllFlushed}
-use Rattle.channel.specs.declared.AllFlushed.TheVariants as All
+use Rattle.channel.specs.declared.AllFlushed.TheVariants as FlushAll
 use Rattle.channel.specs.declared.Moved.{Moved}
-use Rattle.channel.specs.declared.Moved.TheVariants as Moved
 use Rattle.channel.specs.declared.Taken.{Taken}
-use Rattle.channel.specs.declared.Taken.TheVariants as Taken
 use Rattle.channel.specs.declared.WindowSize.{WindowSize}
 use Rattle.channel.specs.declared.WindowSize.TheVariants as Window
 use Rattle.channel.specs.declared.PendingData.{PendingData}
@@ -105,9 +97,9 @@ done_read = refl
 
 pub all_read : (a : AllFlushed) → read_as as_acted (numbers_of (all_flushed a)) ≡ all_flushed a
 unfolding all_flushed
-all_read All.Done = done_read
-all_read (All.Stopped n k) = stopped_read n.0 k
-all_read (All.Refused k) = refusal_read as_acted k
+all_read FlushAll.Done = done_read
+all_read (FlushAll.Stopped n k) = stopped_read n.0 k
+all_read (FlushAll.Refused k) = refusal_read as_acted k
 
 pub moved_read : (m : Moved) → read_as as_moved (numbers_of (moved m)) ≡ moved m
 unfolding read_as as_moved numbers_of refusal_in values_in result_values moved

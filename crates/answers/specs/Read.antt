@@ -1,6 +1,6 @@
 -- The answer that a reply's numbers stand for, given what kind of answer the call has.
 -- Assumes nothing.
-use Rattle.std.specs.Prelude.{ℕ, Bool, true, false, cond, eqb, get_or}
+use Rattle.std.specs.Prelude.{ℕ, Bool, cond, eqb, get_or}
 use Rattle.channel.specs.declared.Kind.TheVariants.{Plain, Extended}
 use Rattle.channel.specs.Call as C
 use Rattle.answers.specs.declared.Numbers.{Numbers}

@@ -1,4 +1,6 @@
 // What a call answers, as numbers: the refusal's, or 0, and the values after it. docs/REPLAY.md has them for each call.
+#![tactic(auto)]
+
 ghost use Rattle.std.specs.Prelude.{◌≡◌, [], ◌∷◌};
 ghost use Rattle.channel.specs.Answers.{refusal_number, refusal, message_of, picked, acted, sent, charged, flushed, all_flushed, moved, taken, window_size, pending_data};
 ghost use Rattle.channel.specs.Call as C;
@@ -12,7 +14,7 @@ use channel::{
 
 // The refusal's number, or 0, and the first `count` of the values; the others are 0.
 #[repr(C)]
-#[derive(Drop)]
+#[derive(Clone, Copy)]
 pub struct Numbers {
     pub refusal: u32,
     pub count: u32,

@@ -2,31 +2,24 @@
 -- Assumes nothing.
 use Prim.Native.Nat.{ℕ}
 use mathlib.Core.Path.{◌≡◌, refl, sym, ap, ap₂, ◌∙◌}
-use mathlib.Core.Bool.{Bool, true, false}
+use mathlib.Core.Bool.{true, false}
 use lib.Dec.{eqb}
 use native.Mathlib.Omega.{arith}
 use Rattle.channel.specs.declared.ChannelId.{ChannelId}
 use Rattle.channel.specs.declared.Refusal.{Refusal}
-use Rattle.channel.specs.declared.Refusal.TheVariants as Refusal
 use Rattle.channel.specs.declared.Message as M
 use Rattle.channel.specs.declared.Message.TheVariants as Message
 use Rattle.channel.specs.declared.Picked.{Picked}
-use Rattle.channel.specs.declared.Picked.TheVariants as Picked
 use Rattle.channel.specs.declared.Acted.{Acted}
-use Rattle.channel.specs.declared.Acted.TheVariants as Acted
 use Rattle.channel.specs.declared.Sent.{Sent}
-use Rattle.channel.specs.declared.Sent.TheVariants as Sent
 use Rattle.channel.specs.declared.Charged.{Charged}
-use Rattle.channel.specs.declared.Charged.TheVariants as Charged
 use Rattle.channel.specs.declared.Completed.{Completed}
 use Rattle.channel.specs.declared.ChannelFlushResult.{ChannelFlushResult}
 use Rattle.channel.specs.declared.ChannelFlushResult.TheVariants as Flush
 use Rattle.channel.specs.declared.AllFlushed.{AllFlushed}
-use Rattle.channel.specs.declared.AllFlushed.TheVariants as All
+use Rattle.channel.specs.declared.AllFlushed.TheVariants as FlushAll
 use Rattle.channel.specs.declared.Moved.{Moved}
-use Rattle.channel.specs.declared.Moved.TheVariants as Moved
 use Rattle.channel.specs.declared.Taken.{Taken}
-use Rattle.channel.specs.declared.Taken.TheVariants as Taken
 use Rattle.channel.specs.declared.WindowSize.{WindowSize}
 use Rattle.channel.specs.declared.WindowSize.TheVariants as Window
 use Rattle.channel.specs.declared.PendingData.{PendingData}
@@ -151,18 +144,18 @@ flushed_one (Flush.Refused k) (Flush.Refused j) e = ap Flush.Refused (refusal_on
 
 pub all-flushed_one : (a b : AllFlushed) → all_flushed a ≡ all_flushed b → a ≡ b
 unfolding all_flushed refusal
-all-flushed_one All.Done All.Done e = refl
-all-flushed_one All.Done (All.Stopped n k) e = absurd (let z : ◌≡◌ {A = ℕ} 0 1 = cc in omega arith)
-all-flushed_one All.Done (All.Refused k) e = absurd (let z : ◌≡◌ {A = ℕ} 0 1 = cc in omega arith)
-all-flushed_one (All.Stopped n k) All.Done e = absurd (let z : ◌≡◌ {A = ℕ} 0 1 = cc in omega arith)
-all-flushed_one (All.Stopped n k) (All.Stopped m j) e =
+all-flushed_one FlushAll.Done FlushAll.Done e = refl
+all-flushed_one FlushAll.Done (FlushAll.Stopped n k) e = absurd (let z : ◌≡◌ {A = ℕ} 0 1 = cc in omega arith)
+all-flushed_one FlushAll.Done (FlushAll.Refused k) e = absurd (let z : ◌≡◌ {A = ℕ} 0 1 = cc in omega arith)
+all-flushed_one (FlushAll.Stopped n k) FlushAll.Done e = absurd (let z : ◌≡◌ {A = ℕ} 0 1 = cc in omega arith)
+all-flushed_one (FlushAll.Stopped n k) (FlushAll.Stopped m j) e =
     let y : n.0 ≡ m.0 = cc in
     let z : refusal_number k ≡ refusal_number j = cc in
-    ap₂ All.Stopped (id_one n m y) (number_one k j z)
-all-flushed_one (All.Stopped n k) (All.Refused j) e = absurd (let z : ◌≡◌ {A = ℕ} 0 1 = cc in omega arith)
-all-flushed_one (All.Refused k) All.Done e = absurd (let z : ◌≡◌ {A = ℕ} 0 1 = cc in omega arith)
-all-flushed_one (All.Refused k) (All.Stopped m j) e = absurd (let z : ◌≡◌ {A = ℕ} 0 1 = cc in omega arith)
-all-flushed_one (All.Refused k) (All.Refused j) e = ap All.Refused (unfold refusal in refusal_one k j e)
+    ap₂ FlushAll.Stopped (id_one n m y) (number_one k j z)
+all-flushed_one (FlushAll.Stopped n k) (FlushAll.Refused j) e = absurd (let z : ◌≡◌ {A = ℕ} 0 1 = cc in omega arith)
+all-flushed_one (FlushAll.Refused k) FlushAll.Done e = absurd (let z : ◌≡◌ {A = ℕ} 0 1 = cc in omega arith)
+all-flushed_one (FlushAll.Refused k) (FlushAll.Stopped m j) e = absurd (let z : ◌≡◌ {A = ℕ} 0 1 = cc in omega arith)
+all-flushed_one (FlushAll.Refused k) (FlushAll.Refused j) e = ap FlushAll.Refused (unfold refusal in refusal_one k j e)
 
 pub moved_one : (a b : Moved) → moved a ≡ moved b → a ≡ b
 unfolding moved refusal

@@ -1,12 +1,10 @@
 -- The clauses of `is_sound` by their names.
 -- Assumes nothing.
-use Prim.Native.Nat.{ℕ, ◌≤◌}
 use mathlib.Core.Path.{◌≡◌}
-use mathlib.Core.Bool.{Bool, true}
-use mathlib.Core.List.{List, [], ◌∷◌}
+use mathlib.Core.Bool.{true}
+use mathlib.Core.List.{[], ◌∷◌}
 use lib.ListN.{length, take, drop}
 use lib.Dec.{leb, eqb}
-use borrow.Author.Tests.{leb-true}
 use Rattle.laws.specs.Clauses.{every}
 use Rattle.laws.proofs.Clauses.{AllTrue, every_of}
 use Rattle.channel.specs.State.{most_bytes, most_entries}

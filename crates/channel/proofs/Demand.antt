@@ -1,10 +1,10 @@
 -- Demand 3, over the state as the code holds it, for any list of calls and any three buffers.
 -- Assumes nothing.
-use Prim.Native.Nat.{ℕ, ◌+◌, ◌-◌, ◌≤◌}
+use Prim.Native.Nat.{ℕ, ◌-◌, ◌≤◌}
 use mathlib.Core.Path.{◌≡◌, refl, sym, ap, ap₂, ◌∙◌}
-use mathlib.Core.Bool.{Bool, true, false, cond}
+use mathlib.Core.Bool.{true, false, cond}
 use mathlib.Core.List.{List, [], ◌∷◌, ◌++◌, append-nil}
-use lib.ListN.{length, take, replicate}
+use lib.ListN.{length, replicate}
 use lib.Seq.{take-append_seam}
 use native.Mathlib.Omega.{arith}
 use borrow.Author.Tests.{leb-true}
@@ -15,15 +15,15 @@ use Rattle.channel.specs.Call.{Call, act, put, flush_all, flush_staged, drain, r
 use Rattle.channel.specs.Raw.{Raw, empty_table, zero_entry, word_of, records_of, pending_of, written}
 use Rattle.channel.specs.Sound.{is_sound}
 use Rattle.channel.specs.Called.{when_sound, called, lent}
-use Rattle.channel.specs.Demand.{sent_part, staged_part, Shown, takes, following, calls, finally, start, ever_sent, staged_call, staged_calls, is_room, NeverRoom, apart_from_counts, Equal, AllEqual, during_rekey}
+use Rattle.channel.specs.Demand.{sent_part, staged_part, Shown, takes, following, calls, finally, start, ever_sent, staged_call, staged_calls, NeverRoom, Equal, AllEqual, during_rekey}
 use Rattle.channel.proofs.Wire.{NoneEmpty}
 use Rattle.channel.proofs.Lookup.{Apart}
 use Rattle.channel.proofs.Entries.{own, some}
-use Rattle.channel.proofs.Sound.{fine_at, SoundTable, Sound}
+use Rattle.channel.proofs.Sound.{fine_at, Sound}
 use Rattle.channel.proofs.SoundStep.{step-sound}
 use Rattle.channel.proofs.Clauses.{clauses}
 use Rattle.channel.proofs.Written.{written-sound, called-written}
-use Rattle.channel.proofs.Run.{taken_by, Seen, next, run, final, before, NoRoom, Same, Alike, AllAlike}
+use Rattle.channel.proofs.Run.{taken_by, Seen, next, run, final, before, NoRoom, Alike, AllAlike}
 use Rattle.channel.proofs.Routes.{straight_or_staged, rekey_sends_nothing}
 
 -- A SOUND STATE: what the code shows of what the document's step sees

@@ -2,9 +2,9 @@
 -- Assumes nothing.
 use Prim.Native.Nat.{ℕ, zero, suc, ◌+◌, ◌-◌, ◌*◌, ◌/◌, ◌%◌, ◌^◌, ◌≤◌, ◌<◌}
 use mathlib.Core.Path.{◌≡◌, refl, sym, ap, ap₂, ◌∙◌}
-use mathlib.Core.Bool.{Bool, true, false, ◌&&◌, ◌||◌, not, true≢false}
+use mathlib.Core.Bool.{true, false, ◌&&◌, ◌||◌, not, true≢false}
 use mathlib.Core.List.{List, [], ◌∷◌, ◌++◌}
-use lib.ListN.{length, take, drop, replicate, get_or, length-append, length-take, length-drop, take-append-drop}
+use lib.ListN.{length, take, drop, replicate, length-append, length-take, length-drop, take-append-drop}
 use lib.Seq.{take-add, take_all, length-take-le, get_or-drop}
 use lib.Dec.{leb, ltb, eqb}
 use native.Mathlib.Omega.{arith}
@@ -15,15 +15,15 @@ use Rattle.laws.proofs.Clauses.{AllTrue, every_of}
 use Rattle.channel.specs.declared.Record.{Record}
 use Rattle.channel.specs.declared.Entry as E
 use Rattle.channel.specs.Wire.{read32, uint32, frame, frames}
-use Rattle.channel.specs.State.{place_count, most_entries, most_bytes, number_of, Place, vacant, holds, Entry, World, Found, nowhere, found, look, is_used, any_entry, queued}
+use Rattle.channel.specs.State.{most_entries, most_bytes, number_of, Place, vacant, holds, Entry, World, Found, nowhere, found, look, is_used, any_entry, queued}
 use Rattle.channel.specs.Raw.{Raw, places_of, entries_of, messages_of, meaning, zero_record, zero_entry, word_of, records_of, pending_of, written}
 use Rattle.channel.specs.Sound.{is_zero, is_zero_entry, unused_zero, entries_zero, distinct, found_confirmed, all_named, sum_left, is_marked, all_marked, whole_frames, is_sound}
 use Rattle.channel.specs.Called.{AllBytes, Typed}
 use Rattle.channel.proofs.Wire.{NoneEmpty, uint32_read}
 use Rattle.channel.proofs.Lookup.{Apart, nothing-found, look_hit, look_miss}
 use Rattle.channel.proofs.Entries.{own, some, any_own}
-use Rattle.channel.proofs.Sound.{fine_at, SoundTable, Sound, fine-is}
-use Rattle.channel.proofs.Clauses.{Clauses, clauses}
+use Rattle.channel.proofs.Sound.{fine_at, Sound, fine-is}
+use Rattle.channel.proofs.Clauses.{clauses}
 use Rattle.channel.proofs.Written.{whole-at}
 
 -- THE PLACES

@@ -1,16 +1,16 @@
 -- Looking a number up among the places, and what replacing and settling in do to it.
 -- Assumes nothing.
 use Rattle.channel.specs.declared.Record.{Record}
-use Prim.Native.Nat.{ℕ, zero, suc}
+use Prim.Native.Nat.{ℕ, suc}
 use mathlib.Core.Path.{◌≡◌, refl, sym, ap, ◌∙◌}
-use mathlib.Core.Bool.{Bool, true, false, ◌||◌, true≢false}
+use mathlib.Core.Bool.{true, false, ◌||◌, true≢false}
 use mathlib.Core.List.{List, [], ◌∷◌}
 use lib.ListN.{length}
 use lib.Dec.{eqb}
 use native.Mathlib.Omega.{arith}
 use borrow.Author.Tests.{eqb-true, eqb-false, eq-eqb, ne_eqb}
 use Rattle.laws.proofs.Tests.{by_test, or_neither}
-use Rattle.channel.specs.State.{number_of, Place, vacant, holds, Found, nowhere, found, look, replace, settle_in, any_vacant, is_used}
+use Rattle.channel.specs.State.{number_of, Place, vacant, holds, nowhere, found, look, replace, settle_in, any_vacant, is_used}
 
 -- used numbers are distinct
 unfoldable pub Apart : List Place → Type 0

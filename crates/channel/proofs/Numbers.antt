@@ -1,6 +1,5 @@
 -- The number that `new_channel` picks: not in the table, and the first such after the last. Of 34 numbers in a row at most 32 are used.
 -- Assumes nothing.
-use Rattle.channel.specs.declared.Record.{Record}
 use Prim.Native.Nat.{ℕ, zero, suc, ◌+◌, ◌-◌, ◌≤◌, ◌<◌, ◌%◌}
 use mathlib.Core.Path.{◌≡◌, refl, sym, ap, ◌∙◌}
 use mathlib.Core.Bool.{Bool, true, false, true≢false}

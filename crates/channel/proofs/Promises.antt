@@ -5,11 +5,10 @@ use mathlib.Core.Path.{◌≡◌, refl, sym, ap, ◌∙◌}
 use mathlib.Core.Bool.{Bool, true, false}
 use mathlib.Core.List.{List, [], ◌∷◌, ◌++◌}
 use native.Mathlib.Omega.{arith}
-use Rattle.laws.proofs.Tests.{by_test}
 use Rattle.channel.specs.State.{World}
-use Rattle.channel.specs.Call.{Route, Load, flush, Call, act, put, flush_all, flush_staged, drain, Result, done, Answer, refused, stopped, gave, moved}
-use Rattle.channel.specs.Decide.{Plan, Decision, refuse, go, decide, load}
-use Rattle.channel.specs.Step.{Reply, reply, Room, enough, lacks, room_for, with_room, apply, step_act, step_load, numbers, is_refusal, stop_at, either, flush_each, move, drained, step}
+use Rattle.channel.specs.Call.{Route, flush, Call, act, put, flush_all, flush_staged, drain, Result, done, Answer, refused, stopped, gave, moved}
+use Rattle.channel.specs.Decide.{Decision, refuse, go, decide, load}
+use Rattle.channel.specs.Step.{Reply, reply, Room, enough, lacks, room_for, with_room, apply, step_act, step_load, numbers, is_refusal, stop_at, either, flush_each, move, step}
 use Rattle.channel.specs.Raw.{Raw, meaning, written}
 use Rattle.channel.specs.Sound.{is_sound}
 use Rattle.channel.specs.Called.{Typed, Outcome, when_sound, called}

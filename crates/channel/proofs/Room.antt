@@ -1,13 +1,13 @@
 -- Room: what `enough` says, and what lacks it.
 -- Assumes nothing.
-use Prim.Native.Nat.{ℕ, ◌+◌}
+use Prim.Native.Nat.{ℕ}
 use mathlib.Core.Path.{◌≡◌, refl}
 use mathlib.Core.Bool.{Bool, true, false}
 use lib.ListN.{length}
 use lib.Dec.{leb}
 use native.Mathlib.Omega.{arith}
 use Rattle.channel.specs.Wire.{frames}
-use Rattle.channel.specs.State.{World, queued}
+use Rattle.channel.specs.State.{World}
 use Rattle.channel.specs.Decide.{Plan}
 use Rattle.channel.specs.Step.{to_sent, to_staged, Room, enough, lacks, needs, within, room_for}
 use Rattle.channel.proofs.Sound.{queue_size}

@@ -11,7 +11,7 @@ use lib.Dec.{eqb}
 use borrow.Author.Tests.{eqb-true, eqb-false}
 use Rattle.laws.proofs.Tests.{by_test, and_both, and_of, implied, implies}
 use Rattle.channel.specs.Wire.{frames}
-use Rattle.channel.specs.State.{place_count, most_entries, most_bytes, number_of, Place, vacant, holds, Entry, Table, World, Found, nowhere, found, look, replace, settle_in, any_vacant, is_used, queued}
+use Rattle.channel.specs.State.{place_count, most_entries, most_bytes, number_of, Place, vacant, holds, Entry, World, Found, nowhere, found, look, replace, settle_in, any_vacant, is_used, queued}
 use Rattle.channel.specs.Sound.{is_marked}
 use Rattle.channel.proofs.Wire.{NoneEmpty}
 use Rattle.channel.proofs.Lookup.{Apart, For, look_unused, look_replaced, look_other, look_freed, apart_replace, length-replace, look_settled, apart_settled, length_settled, look_settled_self}

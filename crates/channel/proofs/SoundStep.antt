@@ -2,27 +2,27 @@
 -- Assumes nothing.
 use Rattle.channel.specs.declared.Record.{Record}
 use Rattle.channel.specs.declared.Kind.{Kind}
-use Prim.Native.Nat.{ℕ, zero, suc, ◌+◌, ◌-◌, ◌≤◌, ◌/◌}
+use Prim.Native.Nat.{ℕ, ◌+◌, ◌-◌, ◌≤◌, ◌/◌}
 use mathlib.Core.Path.{◌≡◌, refl, sym, ap, ◌∙◌}
-use mathlib.Core.Bool.{Bool, true, false, ◌&&◌, ◌||◌, not, cond, true≢false}
+use mathlib.Core.Bool.{Bool, true, false, ◌&&◌, ◌||◌, cond, true≢false}
 use mathlib.Core.List.{List, [], ◌∷◌, ◌++◌, append-nil}
-use lib.ListN.{length, take, drop, replicate, take-append-drop, length-append, length-drop, length-replicate}
+use lib.ListN.{length, take, drop, take-append-drop, length-append, length-drop, length-replicate}
 use lib.Dec.{leb, ltb, eqb}
 use native.Mathlib.Omega.{arith}
 use borrow.Author.Tests.{leb-true}
 use Rattle.laws.proofs.Tests.{by_test, shut, and_both, or_neither}
 use Rattle.channel.specs.Wire.{frame, frames, eof_message, close_message, adjust_message}
-use Rattle.channel.specs.State.{most_entries, most_window, number_of, peer_of, stored, Place, vacant, holds, Entry, Table, World, Found, nowhere, found, look, replace, settle_in, without, any_vacant, is_used, any_entry, queued, refit}
-use Rattle.channel.specs.Call.{Act, new_channel, new_channel_id, open_for_peer, eof, close, adjust, incoming, window_of, has_pending, Load, send, flush, Route, Call, act, put, flush_all, flush_staged, drain, Message, confirmation, failure, credit, received, ended, closed, Result, Answer}
+use Rattle.channel.specs.State.{most_window, number_of, peer_of, stored, Place, Entry, Table, World, Found, nowhere, found, look, settle_in, any_vacant, is_used, any_entry, queued, refit}
+use Rattle.channel.specs.Call.{Act, new_channel, new_channel_id, open_for_peer, eof, close, adjust, incoming, window_of, has_pending, Load, send, flush, Route, Call, act, put, flush_all, flush_staged, drain, Message, confirmation, failure, credit, received, ended, closed, Result}
 use Rattle.channel.specs.Read.{Read, malformed, reads, read_message}
 use Rattle.channel.specs.Change.{fresh, confirm, with_peer_window, with_window, with_marks, with_last, with_places, with_entries, altered, removed}
-use Rattle.channel.specs.Decide.{Queues, none, for, Plan, Decision, refuse, go, quiet, queueing, staging, known, passing, is_confirmed, serves, next_number, remainder, queues_rest, send_now, send_on, eof_on, close_on, charged, adjust_on, Flushed, flushed, any_byte, eofs, closes, unmarked, flushed_part, flushed_whole, flush_on, taken_in, taken_read, decide, load}
-use Rattle.channel.specs.Step.{Reply, to_sent, to_staged, Room, enough, lacks, needs, within, room_for, carried_out, with_room, apply, step_act, step_load, numbers, is_refusal, either, flush_each, fitting, move, drained, step}
+use Rattle.channel.specs.Decide.{for, Plan, Decision, refuse, go, quiet, queueing, staging, known, passing, is_confirmed, serves, next_number, remainder, queues_rest, send_now, send_on, eof_on, close_on, charged, adjust_on, flushed, any_byte, eofs, closes, unmarked, flushed_part, flushed_whole, flush_on, taken_in, taken_read, decide, load}
+use Rattle.channel.specs.Step.{Reply, to_sent, to_staged, Room, enough, lacks, within, room_for, carried_out, with_room, apply, step_act, step_load, numbers, is_refusal, either, flush_each, fitting, move, drained, step}
 use Rattle.channel.specs.Sound.{is_marked}
 use Rattle.channel.proofs.Wire.{frames-append, NoneEmpty, full-append, full-drop, packets-full}
 use Rattle.channel.proofs.Lookup.{look-number}
 use Rattle.channel.proofs.Numbers.{next_unused}
-use Rattle.channel.proofs.Entries.{own, some, any_own, Others, others_one, one_there, others_remainder, Less, less_refl, Shrunk, shrunk, less_without, none-without, less_flushed, Left, left}
+use Rattle.channel.proofs.Entries.{own, some, any_own, Others, others_one, one_there, others_remainder, less_refl, Shrunk, shrunk, less_without, none-without, less_flushed, left}
 use Rattle.channel.proofs.Sound.{fine, fine_at, SoundTable, Fits, queue_size, Sound, Fine, fine_of, fine-is, alter, remove, queue_more, opened}
 use Rattle.channel.proofs.Room.{Roomy, roomy}
 

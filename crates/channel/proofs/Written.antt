@@ -2,29 +2,29 @@
 -- Assumes nothing.
 use Prim.Native.Nat.{ℕ, zero, suc, ◌+◌, ◌-◌, ◌*◌, ◌/◌, ◌%◌, ◌≤◌, ◌<◌}
 use mathlib.Core.Path.{◌≡◌, refl, sym, ap, ◌∙◌}
-use mathlib.Core.Bool.{Bool, true, false, ◌&&◌, ◌||◌, not, true≢false}
+use mathlib.Core.Bool.{true, ◌&&◌, ◌||◌, not, true≢false}
 use mathlib.Core.List.{List, [], ◌∷◌, ◌++◌}
-use lib.ListN.{length, take, drop, replicate, length-append}
+use lib.ListN.{length, drop, replicate, length-append}
 use lib.Seq.{take-append_seam, drop-append_seam}
 use lib.Dec.{leb, ltb, eqb}
 use native.Mathlib.Omega.{arith}
 use borrow.Author.Tests.{eqb-true, eq-eqb, ne_eqb, le-leb, lt-ltb}
 use Rattle.laws.specs.Clauses.{every}
-use Rattle.laws.proofs.Tests.{by_test, shut, or_second, implies}
+use Rattle.laws.proofs.Tests.{by_test, or_second, implies}
 use Rattle.channel.specs.declared.Record.{Record}
 use Rattle.channel.specs.declared.Entry as E
 use Rattle.channel.specs.Wire.{read32, uint32, frame, frames}
 use Rattle.channel.specs.State.{most_entries, most_bytes, number_of, Place, vacant, holds, Entry, World, Found, nowhere, found, look, is_used, any_entry, queued}
 use Rattle.channel.specs.Call.{Call}
 use Rattle.channel.specs.Step.{step}
-use Rattle.channel.specs.Raw.{Raw, zero_record, zero_entry, word_of, records_of, pending_of, written}
+use Rattle.channel.specs.Raw.{zero_record, zero_entry, word_of, records_of, pending_of, written}
 use Rattle.channel.specs.Sound.{is_zero, is_zero_entry, unused_zero, entries_zero, distinct, found_confirmed, all_named, sum_left, is_marked, all_marked, whole_frames, is_sound}
-use Rattle.channel.specs.Called.{Outcome, when_sound, called}
+use Rattle.channel.specs.Called.{when_sound, called}
 use Rattle.channel.proofs.Wire.{NoneEmpty, length-frames, read_uint32}
 use Rattle.channel.proofs.Lookup.{Apart, nothing-found, look_hit, look_miss, look_unused}
-use Rattle.channel.proofs.Entries.{own, some, any_own}
-use Rattle.channel.proofs.Sound.{fine_at, SoundTable, Sound, Fine, fine_of}
-use Rattle.channel.proofs.Clauses.{Clauses, by_clauses}
+use Rattle.channel.proofs.Entries.{own, any_own}
+use Rattle.channel.proofs.Sound.{fine_at, SoundTable, Sound, fine_of}
+use Rattle.channel.proofs.Clauses.{by_clauses}
 use Rattle.channel.proofs.Meaning.{four_more, meaning-written}
 
 -- PLACES AND ENTRIES

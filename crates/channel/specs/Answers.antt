@@ -2,25 +2,18 @@
 -- Assumes nothing.
 use Rattle.std.specs.Prelude.{ℕ}
 use Rattle.channel.specs.declared.Refusal.{Refusal}
-use Rattle.channel.specs.declared.Refusal.TheVariants as Refusal
 use Rattle.channel.specs.declared.Message as M
 use Rattle.channel.specs.declared.Message.TheVariants as Message
 use Rattle.channel.specs.declared.Picked.{Picked}
-use Rattle.channel.specs.declared.Picked.TheVariants as Picked
 use Rattle.channel.specs.declared.Acted.{Acted}
-use Rattle.channel.specs.declared.Acted.TheVariants as Acted
 use Rattle.channel.specs.declared.Sent.{Sent}
-use Rattle.channel.specs.declared.Sent.TheVariants as Sent
 use Rattle.channel.specs.declared.Charged.{Charged}
-use Rattle.channel.specs.declared.Charged.TheVariants as Charged
 use Rattle.channel.specs.declared.ChannelFlushResult.{ChannelFlushResult}
 use Rattle.channel.specs.declared.ChannelFlushResult.TheVariants as Flush
 use Rattle.channel.specs.declared.AllFlushed.{AllFlushed}
-use Rattle.channel.specs.declared.AllFlushed.TheVariants as All
+use Rattle.channel.specs.declared.AllFlushed.TheVariants as FlushAll
 use Rattle.channel.specs.declared.Moved.{Moved}
-use Rattle.channel.specs.declared.Moved.TheVariants as Moved
 use Rattle.channel.specs.declared.Taken.{Taken}
-use Rattle.channel.specs.declared.Taken.TheVariants as Taken
 use Rattle.channel.specs.declared.WindowSize.{WindowSize}
 use Rattle.channel.specs.declared.WindowSize.TheVariants as Window
 use Rattle.channel.specs.declared.PendingData.{PendingData}
@@ -78,9 +71,9 @@ flushed (Flush.Refused k) = refusal k
 
 -- and of all
 unfoldable pub all_flushed : AllFlushed → C.Answer
-all_flushed All.Done = C.gave C.done
-all_flushed (All.Stopped n k) = C.stopped n.0 (refusal_number k)
-all_flushed (All.Refused k) = refusal k
+all_flushed FlushAll.Done = C.gave C.done
+all_flushed (FlushAll.Stopped n k) = C.stopped n.0 (refusal_number k)
+all_flushed (FlushAll.Refused k) = refusal k
 
 -- the staged flush
 unfoldable pub moved : Moved → C.Answer

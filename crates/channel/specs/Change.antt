@@ -1,7 +1,7 @@
 -- The changes that a call makes to a record or to the table.
 -- Assumes nothing.
 use Rattle.channel.specs.declared.Record.{Record}
-use Rattle.std.specs.Prelude.{ℕ, Bool, true, false, List, [], ◌∷◌, ◌++◌}
+use Rattle.std.specs.Prelude.{ℕ, Bool, true, false, List}
 use Rattle.channel.specs.State.{Place, holds, vacant, Entry, Table, replace, number_of, peer_of}
 
 -- the parts of a record that calls change

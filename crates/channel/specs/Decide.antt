@@ -5,7 +5,7 @@ use Rattle.channel.specs.declared.Record.{Record}
 use Rattle.channel.specs.declared.Kind.{Kind}
 use Rattle.std.specs.Prelude.{ℕ, zero, suc, ◌+◌, ◌-◌, ◌/◌, ◌%◌, min, Bool, true, false, ◌&&◌, ◌||◌, cond, List, [], ◌∷◌, ◌++◌, length, take, drop, leb, ltb, eqb}
 use Rattle.channel.specs.Wire.{packets, eof_message, close_message, adjust_message}
-use Rattle.channel.specs.State.{place_count, numbers_in_all, most_window, number_of, peer_of, stored, kind_of, Place, vacant, holds, Entry, Table, Found, nowhere, found, look, replace, settle_in, without, any_vacant, is_used, any_entry}
+use Rattle.channel.specs.State.{place_count, numbers_in_all, most_window, number_of, peer_of, stored, kind_of, Place, Entry, Table, Found, nowhere, found, look, settle_in, without, any_vacant, is_used, any_entry}
 use Rattle.channel.specs.Call.{Act, new_channel, new_channel_id, open_for_peer, eof, close, adjust, incoming, window_of, has_pending, Load, send, flush, Message, confirmation, failure, credit, received, ended, closed, Result, done, number, framed, adjusted, incomplete, complete, message, window_is, pending_is}
 use Rattle.channel.specs.Read.{Read, malformed, reads, read_message}
 use Rattle.channel.specs.Change.{fresh, confirm, with_peer_window, with_window, with_marks, with_last, with_places, with_entries, altered, removed}

@@ -1,7 +1,7 @@
 -- Demand 3, over the state as the code holds it: any list of calls, in the forms chosen and in staged forms only.
 -- Assumes nothing.
-use Rattle.std.specs.Prelude.{ℕ, ◌≡◌, Bool, true, false, cond, List, [], ◌∷◌, ◌++◌, map, take, eqb}
-use Rattle.channel.specs.Call.{Form, staged, Route, Call, act, put, flush_all, flush_staged, drain, Answer, refused, stopped, gave, moved, done}
+use Rattle.std.specs.Prelude.{ℕ, ◌≡◌, Bool, true, false, cond, List, [], ◌∷◌, ◌++◌, take, eqb}
+use Rattle.channel.specs.Call.{staged, Route, Call, act, put, flush_all, flush_staged, drain, Answer, refused, stopped, gave, moved, done}
 use Rattle.channel.specs.Raw.{Raw, empty_table}
 use Rattle.channel.specs.Sound.{is_sound}
 use Rattle.channel.specs.Called.{lent, called}

@@ -4,7 +4,7 @@
 use Rattle.channel.specs.declared.Kind.TheVariants.{Extended, Plain}
 use Rattle.std.specs.Prelude.{ℕ, ◌-◌, Bool, true, false, List, [], ◌∷◌, ◌++◌, length, replicate}
 use Rattle.channel.specs.State.{place_count, Place, vacant, holds, stored, Entry, World, queued}
-use Rattle.channel.specs.Call.{Form, straight, staged, Route, Act, new_channel, new_channel_id, open_for_peer, eof, close, adjust, incoming, window_of, has_pending, send, flush, Call, act, put, flush_all, flush_staged, drain, confirmation, failure, credit, received, ended, closed, done, held, number, framed, adjusted, incomplete, complete, message, window_is, pending_is, Answer, refused, stopped, gave, moved}
+use Rattle.channel.specs.Call.{Form, straight, staged, Route, new_channel, new_channel_id, open_for_peer, eof, close, adjust, incoming, window_of, has_pending, send, flush, Call, act, put, flush_all, flush_staged, drain, confirmation, failure, credit, received, ended, closed, done, held, number, framed, adjusted, incomplete, complete, message, window_is, pending_is, Answer, refused, stopped, gave, moved}
 use Rattle.channel.specs.Change.{fresh, confirm, with_marks}
 use Rattle.channel.specs.Step.{numbers}
 use Rattle.channel.specs.Raw.{Raw, meaning, written}

@@ -1,11 +1,11 @@
 -- The state as the code holds it, what it means, and how the document's state is written in it.
 -- Assumes nothing.
-use Rattle.std.specs.Prelude.{ℕ, zero, suc, ◌+◌, ◌-◌, ◌*◌, ◌/◌, ◌%◌, Bool, true, false, cond, List, [], ◌∷◌, ◌++◌, length, take, drop, replicate, eqb}
+use Rattle.std.specs.Prelude.{ℕ, zero, suc, ◌+◌, ◌-◌, ◌*◌, ◌/◌, ◌%◌, false, cond, List, [], ◌∷◌, ◌++◌, length, take, drop, replicate, eqb}
 use Rattle.channel.specs.declared.Record.{Record}
 use Rattle.channel.specs.declared.Entry as E
 use Rattle.channel.specs.declared.Table as D
 use Rattle.channel.specs.Wire.{frames, read32}
-use Rattle.channel.specs.State.{place_count, most_entries, Place, vacant, holds, Entry, Table, World, queued}
+use Rattle.channel.specs.State.{place_count, most_entries, Place, vacant, holds, Entry, World, queued}
 
 -- the struct, and the three lent buffers whole
 pub record Raw : Type 0 where

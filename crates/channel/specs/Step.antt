@@ -1,9 +1,9 @@
 -- One call on the whole state: the decision of the table, the room for it, and where its messages go.
 -- Assumes nothing.
-use Rattle.std.specs.Prelude.{ℕ, zero, suc, ◌+◌, ◌-◌, Bool, true, false, ◌&&◌, List, [], ◌∷◌, ◌++◌, length, take, drop, replicate, leb}
+use Rattle.std.specs.Prelude.{ℕ, suc, ◌+◌, ◌-◌, Bool, true, false, ◌&&◌, List, [], ◌∷◌, ◌++◌, length, take, drop, replicate, leb}
 use Rattle.channel.specs.Wire.{frame, frames}
 use Rattle.channel.specs.State.{most_entries, number_of, Place, vacant, holds, Table, World, queued, refit}
-use Rattle.channel.specs.Call.{Route, direct, Act, Load, flush, Call, act, put, flush_all, flush_staged, drain, Result, done, held, Answer, refused, stopped, gave, moved}
+use Rattle.channel.specs.Call.{Route, direct, Act, Load, flush, Call, act, put, flush_all, flush_staged, drain, done, held, Answer, refused, stopped, gave, moved}
 use Rattle.channel.specs.Decide.{Queues, none, for, Plan, Decision, refuse, go, decide, load}
 
 pub record Reply : Type 0 where

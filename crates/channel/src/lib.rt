@@ -1,22 +1,24 @@
 // The types of the table. The definition of every call over it is in specs/, and the theorems over the definition in proofs/.
 
+#![tactic(auto)]
+
 ghost use Rattle.std.specs.Prelude.{◌≡◌};
 ghost use Rattle.channel.specs.State as S;
 ghost use Rattle.channel.specs.Raw.{empty_table, zero_record, zero_entry};
 
 // A channel's number at this end.
 #[repr(C)]
-#[derive(Drop)]
+#[derive(Clone, Copy)]
 pub struct ChannelId(pub u32);
 
 // A channel's number at the peer's end.
 #[repr(C)]
-#[derive(Drop)]
+#[derive(Clone, Copy)]
 pub struct PeerNumber(pub u32);
 
 // One channel: the fields of `ChannelParams` less its queue.
 #[repr(C)]
-#[derive(Drop)]
+#[derive(Clone, Copy)]
 pub struct Record {
     pub recipient_channel: PeerNumber,
     pub sender_channel: ChannelId,
@@ -31,7 +33,7 @@ pub struct Record {
 }
 
 // Which data: plain, or extended with a code.
-#[derive(Drop)]
+#[derive(Clone, Copy)]
 pub enum Kind {
     Plain,
     Extended(u32),
@@ -40,7 +42,7 @@ pub enum Kind {
 // Which data an entry holds, in numbers, so that a table can stand in an exported type: plain, or extended with a code. Of plain data the
 // code is not looked at; the calls store 0.
 #[repr(C)]
-#[derive(Drop)]
+#[derive(Clone, Copy)]
 pub struct StoredKind {
     pub extended: bool,
     pub code: u32,
@@ -48,7 +50,7 @@ pub struct StoredKind {
 
 // One pending entry; its bytes stand in the lent queue.
 #[repr(C)]
-#[derive(Drop)]
+#[derive(Clone, Copy)]
 pub struct Entry {
     pub number: ChannelId,
     pub kind: StoredKind,
@@ -57,7 +59,7 @@ pub struct Entry {
 
 // The whole table: bit i of `used` says whether place i holds a record. The counts are those of the three lent buffers.
 #[repr(C)]
-#[derive(Drop)]
+#[derive(Clone, Copy)]
 pub struct Table {
     pub used: u32,
     pub last: u32,
@@ -70,14 +72,14 @@ pub struct Table {
 }
 
 // Where a string lies in an incoming payload.
-#[derive(Drop)]
+#[derive(Clone, Copy)]
 pub struct Text {
     pub start: usize,
     pub length: u32,
 }
 
 // The fields of an incoming 91.
-#[derive(Drop)]
+#[derive(Clone, Copy)]
 pub struct Confirmation {
     pub recipient: ChannelId,
     pub sender: PeerNumber,
@@ -86,7 +88,7 @@ pub struct Confirmation {
 }
 
 // The fields of an incoming 92.
-#[derive(Drop)]
+#[derive(Clone, Copy)]
 pub struct Failure {
     pub recipient: ChannelId,
     pub reason: u32,
@@ -95,14 +97,14 @@ pub struct Failure {
 }
 
 // The fields of an incoming 93.
-#[derive(Drop)]
+#[derive(Clone, Copy)]
 pub struct Adjust {
     pub recipient: ChannelId,
     pub add: u32,
 }
 
 // The fields of an incoming 94 or 95.
-#[derive(Drop)]
+#[derive(Clone, Copy)]
 pub struct ChannelData {
     pub recipient: ChannelId,
     pub kind: Kind,
@@ -110,7 +112,7 @@ pub struct ChannelData {
 }
 
 // An incoming message: 91, 92, 93, 94 or 95, 96, 97.
-#[derive(Drop)]
+#[derive(Clone, Copy)]
 pub enum Message {
     OpenConfirmation(Confirmation),
     OpenFailure(Failure),
@@ -121,7 +123,7 @@ pub enum Message {
 }
 
 // Why a call is refused: document 01's answers 1 to 8, in their order.
-#[derive(Drop)]
+#[derive(Clone, Copy)]
 pub enum Refusal {
     State,
     Unknown,
@@ -134,35 +136,35 @@ pub enum Refusal {
 }
 
 // What `new_channel` and `new_channel_id` answer.
-#[derive(Drop)]
+#[derive(Clone, Copy)]
 pub enum Picked {
     Number(ChannelId),
     Refused(Refusal),
 }
 
 // What `open_for_peer`, `eof`, `close` and `drain` answer.
-#[derive(Drop)]
+#[derive(Clone, Copy)]
 pub enum Acted {
     Done,
     Refused(Refusal),
 }
 
 // What the four data calls answer: the bytes framed now.
-#[derive(Drop)]
+#[derive(Clone, Copy)]
 pub enum Sent {
     Framed(u32),
     Refused(Refusal),
 }
 
 // What `adjust_window_size` answers: whether an adjust was staged.
-#[derive(Drop)]
+#[derive(Clone, Copy)]
 pub enum Charged {
     Adjusted(bool),
     Refused(Refusal),
 }
 
 // A pending flush that left no entry: the bytes framed, and the marks that it cleared.
-#[derive(Drop)]
+#[derive(Clone, Copy)]
 pub struct Completed {
     pub wrote: usize,
     pub pending_eof: bool,
@@ -170,7 +172,7 @@ pub struct Completed {
 }
 
 // What a pending flush of one channel answers.
-#[derive(Drop)]
+#[derive(Clone, Copy)]
 pub enum ChannelFlushResult {
     Incomplete(usize),
     Complete(Completed),
@@ -178,7 +180,7 @@ pub enum ChannelFlushResult {
 }
 
 // What a pending flush of all channels answers: done, or the channel that it stopped at and why. An unsound state names no channel.
-#[derive(Drop)]
+#[derive(Clone, Copy)]
 pub enum AllFlushed {
     Done,
     Stopped(ChannelId, Refusal),
@@ -186,7 +188,7 @@ pub enum AllFlushed {
 }
 
 // What a staged flush answers: held during rekey, or the frames and bytes moved.
-#[derive(Drop)]
+#[derive(Clone, Copy)]
 pub enum Moved {
     Held,
     Run(usize, usize),
@@ -194,21 +196,21 @@ pub enum Moved {
 }
 
 // What `incoming` answers.
-#[derive(Drop)]
+#[derive(Clone, Copy)]
 pub enum Taken {
     Took(Message),
     Refused(Refusal),
 }
 
 // What `sender_window_size` answers.
-#[derive(Drop)]
+#[derive(Clone, Copy)]
 pub enum WindowSize {
     Window(u32),
     Refused(Refusal),
 }
 
 // What `has_pending_data` answers.
-#[derive(Drop)]
+#[derive(Clone, Copy)]
 pub enum PendingData {
     Pending(bool),
     Refused(Refusal),

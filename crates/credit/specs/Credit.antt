@@ -1,6 +1,6 @@
 -- What a credit comes to: the peer window grows, every other field stays, and nothing changes where the window would pass its limit.
 -- Assumes nothing.
-use Rattle.std.specs.Prelude.{ℕ, ◌+◌, Bool, true, false, cond, leb}
+use Rattle.std.specs.Prelude.{ℕ, ◌+◌, Bool, cond, leb}
 use Rattle.channel.specs.declared.Record.{Record}
 use Rattle.channel.specs.declared.Acted.{Acted}
 use Rattle.channel.specs.declared.Acted.TheVariants.{Done, Refused}

@@ -1,11 +1,13 @@
 // A 93 credit (document 01, Incoming): it alters one record's peer window and no other field.
+#![tactic(auto)]
+
 ghost use Rattle.std.specs.Prelude.{◌≡◌, ◌+◌};
 ghost use Rattle.credit.specs.Credit.{credit_answer, credit_record};
 
 use channel::{Acted, Record, Refusal};
 
 // The answer, and the record after the credit.
-#[derive(Drop)]
+#[derive(Clone, Copy)]
 pub struct Credited {
     pub answer: Acted,
     pub record: Record,

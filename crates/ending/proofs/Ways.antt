@@ -12,7 +12,6 @@ use Rattle.channel.specs.declared.Record.{Record}
 use Rattle.channel.specs.declared.Table as D
 use Rattle.channel.specs.declared.Acted.TheVariants.{Done, Refused}
 use Rattle.channel.specs.declared.Refusal.{Refusal}
-use Rattle.channel.specs.declared.Refusal.TheVariants as Refusal
 use Rattle.channel.specs.Wire.{frame, frames}
 use Rattle.channel.specs.State.{Table, number_of, peer_of, nowhere, look, any_entry}
 use Rattle.channel.specs.Call.{Call, act, done, gave}

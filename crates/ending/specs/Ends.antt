@@ -3,7 +3,6 @@
 use Rattle.std.specs.Prelude.{ℕ, ◌+◌, ◌-◌, ◌^◌, ◌≤◌, ◌<◌, ◌≡◌, Bool, true, false, List}
 use Rattle.channel.specs.declared.Record.{Record}
 use Rattle.channel.specs.declared.Refusal.{Refusal}
-use Rattle.channel.specs.declared.Refusal.TheVariants as Refusal
 use Rattle.channel.specs.Wire.{eof_message, close_message}
 use Rattle.channel.specs.Call.{Act, eof, close}
 use Rattle.channel.specs.Change.{with_marks}

@@ -1,4 +1,6 @@
 // EOF and CLOSE (document 01): with an entry a mark, otherwise the message is staged, and a CLOSE removes the record.
+#![tactic(auto)]
+
 ghost use Rattle.std.specs.Prelude.{◌≡◌, true, ◌+◌, ◌≤◌, ◌<◌, length};
 ghost use Rattle.laws.specs.Bits.{bit};
 ghost use Rattle.octets.specs.Buf.{write};
@@ -17,28 +19,28 @@ use lookup::{Change, changed, kept, unmark};
 use soundness::{Seen, see};
 
 // The table after the call, and the answer. The table stands first: behind the two bytes of the answer it is copied once more.
-#[derive(Drop)]
+#[derive(Clone, Copy)]
 pub struct Ended {
     pub table: Table,
     pub answer: Acted,
 }
 
 // The answer, and the change to the table.
-#[derive(Drop)]
+#[derive(Clone, Copy)]
 struct Effect {
     answer: Acted,
     change: Change,
 }
 
 // Which of the two messages.
-#[derive(Drop)]
+#[derive(Clone, Copy)]
 enum Ending {
     Eof,
     Close,
 }
 
 // What is to be done for a record that was found.
-#[derive(Drop)]
+#[derive(Clone, Copy)]
 enum Plan {
     Refuse(Refusal),
     Mark,

@@ -1,6 +1,8 @@
 // Messages in frames (document 01, Framing): data cut into packets and written into a lent buffer, and the walk over staged.
 // What is written is channel's `frame` of the message, or its `frames` of the packets.
 
+#![tactic(auto)]
+
 ghost use Rattle.std.specs.Prelude.{◌≡◌, true, List, ℕ, min, ◌+◌, ◌-◌, ◌≤◌, ◌<◌, length, take, drop};
 ghost use Rattle.octets.specs.Buf.{write};
 ghost use Rattle.channel.specs.declared.Kind.TheVariants.{Plain, Extended};
@@ -15,7 +17,7 @@ use channel::{Kind, PeerNumber};
 use octets::{copy_in, put_u8, put_u32, read_u32};
 
 // A front run of staged's frames: how many, and their bytes with the lengths.
-#[derive(Drop)]
+#[derive(Clone, Copy)]
 pub struct Front {
     pub frames: usize,
     pub bytes: usize,

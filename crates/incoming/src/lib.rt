@@ -1,4 +1,6 @@
 // Incoming messages: what reading one payload does to the table (document 01, Incoming).
+#![tactic(auto)]
+
 ghost use Rattle.std.specs.Prelude.{◌≡◌, true, cond, ◌<◌};
 ghost use Rattle.laws.specs.Bits.{bit};
 ghost use Rattle.channel.specs.declared.Message.TheVariants as M;
@@ -26,7 +28,7 @@ use soundness::{Seen, see};
 
 // What a message comes to: the answer, the used word, one place with its record, staged's used count, and whether the entries of a
 // number leave the queue. It is less than lookup's `Change`: with an entry in it the compiler copies the table once more.
-#[derive(Drop)]
+#[derive(Clone, Copy)]
 struct Heard {
     answer: Taken,
     used: u32,
@@ -38,7 +40,7 @@ struct Heard {
 }
 
 // What `incoming` leaves.
-#[derive(Drop)]
+#[derive(Clone, Copy)]
 pub struct Arrived {
     pub answer: Taken,
     pub table: Table,

@@ -1,6 +1,6 @@
 -- The lowest index that passes a test.
 -- Assumes nothing.
-use Rattle.std.specs.Prelude.{ℕ, zero, suc, Bool, true, false, cond}
+use Rattle.std.specs.Prelude.{ℕ, zero, suc, Bool, cond}
 
 -- the lowest index below n, and n where there is none
 unfoldable pub lowest : (ℕ → Bool) → ℕ → ℕ

@@ -1,1 +1,3 @@
 // Mathematics that several proofs share: the definitions are in specs/, the laws in proofs/.
+
+#![tactic(auto)]

@@ -15,7 +15,7 @@ use Rattle.channel.specs.declared.Entry as E
 use Rattle.channel.specs.declared.Table as D
 use Rattle.channel.specs.Wire.{frames}
 use Rattle.channel.specs.Wire as W
-use Rattle.channel.specs.State.{most_entries, number_of, Entry, Table, queued}
+use Rattle.channel.specs.State.{most_entries, number_of, Table, queued}
 use Rattle.channel.specs.Call.{Call, Result, refused, gave}
 use Rattle.channel.specs.Change.{with_entries, altered}
 use Rattle.channel.specs.Change as G

@@ -1,4 +1,6 @@
 // Finding a record by its number, and what a call changes of a table, each once for all calls.
+#![tactic(auto)]
+
 ghost use Rattle.std.specs.Prelude.{◌≡◌, true, false, ◌&&◌, ◌+◌, ◌-◌, ◌^◌, ◌<◌, eqb};
 ghost use Rattle.laws.specs.Bits.{bit};
 ghost use Rattle.channel.specs.State.{place_count, number_of};
@@ -8,14 +10,14 @@ ghost use Rattle.lookup.specs.Changed.{Fits, kept_of, applied};
 use channel::{ChannelId, Entry, Record, Table};
 
 // The place of a channel's record, and the record.
-#[derive(Drop)]
+#[derive(Clone, Copy)]
 pub enum Seat {
     At(usize, Record),
     Nothing,
 }
 
 // What a call leaves of a table: its numbers, and of each array the one element that may have changed.
-#[derive(Drop)]
+#[derive(Clone, Copy)]
 pub struct Change {
     pub used: u32,
     pub last: u32,

@@ -5,7 +5,6 @@ use Rattle.laws.specs.Bits.{bit}
 use Rattle.channel.specs.declared.ChannelId.{ChannelId}
 use Rattle.channel.specs.declared.Record.{Record}
 use Rattle.channel.specs.declared.Refusal.{Refusal}
-use Rattle.channel.specs.declared.Refusal.TheVariants as Refusal
 use Rattle.channel.specs.declared.Picked.TheVariants as Picked
 use Rattle.channel.specs.declared.Acted.TheVariants as Acted
 use Rattle.channel.specs.declared.Table as T
@@ -37,7 +36,6 @@ use Rattle.soundness.specs.Sees as S
 use Rattle.numbers.specs.declared.Effect.{Effect}
 use Rattle.numbers.specs.declared.PeerEffect.{PeerEffect}
 use Rattle.numbers.specs.declared.Turn.{Turn}
-use Rattle.numbers.specs.declared.Turn.TheVariants as Turn
 use Rattle.numbers.specs.declared.Free.TheVariants.{Full}
 use Rattle.numbers.specs.Picks.{pick_of, Frees, Turns, Gives, Settles}
 use Rattle.numbers.specs.Picks as P

@@ -4,7 +4,7 @@ use Rattle.std.specs.Prelude.{◌≡◌, ℕ, ◌<◌, Bool, true, false, List, 
 use Rattle.laws.specs.Bits.{bit}
 use Rattle.channel.specs.declared.Record.{Record}
 use Rattle.channel.specs.declared.Table as D
-use Rattle.channel.specs.State.{place_count, Table}
+use Rattle.channel.specs.State.{place_count}
 use Rattle.channel.specs.Raw.{places_of}
 use Rattle.channel.specs.Call.{Act, act, open_for_peer}
 use Rattle.channel.specs.Change.{fresh, confirm}
@@ -21,7 +21,6 @@ use Rattle.numbers.specs.declared.Free.{Free}
 use Rattle.numbers.specs.declared.Free.TheVariants.{Place, Full}
 use Rattle.numbers.specs.declared.PeerEffect.{PeerEffect}
 use Rattle.numbers.specs.declared.Turn.{Turn}
-use Rattle.numbers.specs.declared.Turn.TheVariants as Turn
 
 -- the definition's next number of the table's places
 abbrev pub pick_of : D.Table → ℕ

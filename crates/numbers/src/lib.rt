@@ -1,4 +1,6 @@
 // Picking a number, and opening a record under it.
+#![tactic(auto)]
+
 ghost use Rattle.std.specs.Prelude.{◌≡◌, Bool, not};
 ghost use Rattle.laws.specs.Bits.{bit};
 ghost use Rattle.laws.specs.Lowest.{lowest};
@@ -16,42 +18,42 @@ use lookup::{Change, changed, kept, mark, place_has};
 use soundness::{Seen, is_sound, see};
 
 // What `new_channel` and `new_channel_id` leave.
-#[derive(Drop)]
+#[derive(Clone, Copy)]
 pub struct Opened {
     pub answer: Picked,
     pub table: Table,
 }
 
 // What `open_for_peer` leaves. The table stands first: behind the two bytes of the answer it is copied once more.
-#[derive(Drop)]
+#[derive(Clone, Copy)]
 pub struct PeerOpened {
     pub table: Table,
     pub answer: Acted,
 }
 
 // The answer of `new_channel` or `new_channel_id`, and the change to the table.
-#[derive(Drop)]
+#[derive(Clone, Copy)]
 struct Effect {
     answer: Picked,
     change: Change,
 }
 
 // The same of `open_for_peer`.
-#[derive(Drop)]
+#[derive(Clone, Copy)]
 struct PeerEffect {
     answer: Acted,
     change: Change,
 }
 
 // The lowest free place, if there is one.
-#[derive(Drop)]
+#[derive(Clone, Copy)]
 enum Free {
     Place(usize),
     Full,
 }
 
 // What a call for a new number finds: that the state is not sound, that no place is free, or the place and the number to take.
-#[derive(Drop)]
+#[derive(Clone, Copy)]
 enum Turn {
     Unsound,
     Full,

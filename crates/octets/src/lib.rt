@@ -1,6 +1,8 @@
 // Bytes in a lent buffer: every store into a lent buffer is one of these. What a contract's `write` leaves is plain from
 // proofs/Laws.antt, write_eq: the bytes before, those written, the bytes after.
 
+#![tactic(auto)]
+
 ghost use Rattle.std.specs.Prelude.{◌≡◌, ◌∷◌, [], ◌+◌, ◌≤◌, ◌<◌, length, take, drop, replicate};
 ghost use Rattle.octets.specs.Buf.{write, be32, de32, closed};
 

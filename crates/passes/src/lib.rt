@@ -1,6 +1,8 @@
 // The passes over the pending entries (document 01): what of a channel's queued bytes leaves, as far as a window goes. Three of them:
 // the sizes, the frames (the queue is only read), and the compaction (no destination), so that each byte is copied once.
 
+#![tactic(auto)]
+
 ghost use Rattle.std.specs.Prelude.{◌≡◌, true, false, ◌+◌, ◌-◌, ◌≤◌, ◌<◌, length, take, replicate};
 ghost use Rattle.std.proofs.lemmas.List.Edits.{sets};
 ghost use Rattle.octets.specs.Buf.{write};
@@ -19,7 +21,7 @@ use frames::{put_run, size_of_run, smaller};
 use octets::{move_down, put_zeros};
 
 // What a compaction leaves: the entries, how many, and the queue's used count.
-#[derive(Drop)]
+#[derive(Clone, Copy)]
 pub struct Kept {
     pub entries: [Entry; 64],
     pub count: usize,
@@ -27,7 +29,7 @@ pub struct Kept {
 }
 
 // What a flush would frame: the bytes, the bytes of their frames, and whether no entry is left.
-#[derive(Drop)]
+#[derive(Clone, Copy)]
 pub struct Size {
     pub wrote: usize,
     pub size: usize,
@@ -35,7 +37,7 @@ pub struct Size {
 }
 
 // What the size pass answers: a byte is pending and the limit is 0, or the sizes.
-#[derive(Drop)]
+#[derive(Clone, Copy)]
 pub enum Planned {
     Limit,
     Frames(Size),

@@ -1,6 +1,6 @@
 -- From a channel's flush, carried out, to `called`: refused, into staged, and straight into sent.
 -- Assumes nothing.
-use Prim.Native.Nat.{ℕ, ◌+◌, ◌-◌, ◌^◌, ◌≤◌, ◌<◌}
+use Prim.Native.Nat.{ℕ, ◌+◌, ◌-◌, ◌*◌, ◌^◌, ◌≤◌, ◌<◌}
 use mathlib.Core.Path.{◌≡◌, refl, sym, ap, ap₂, ◌∙◌}
 use mathlib.Core.Bool.{Bool, true, false, ◌&&◌, not, true≢false}
 use mathlib.Core.List.{List, ◌++◌}
@@ -13,7 +13,7 @@ use Rattle.octets.proofs.Laws.{write_eq, write-append}
 use Rattle.channel.specs.declared.Record.{Record}
 use Rattle.channel.specs.declared.Table as T
 use Rattle.channel.specs.Wire.{frames}
-use Rattle.channel.specs.State.{number_of, look, nowhere, queued}
+use Rattle.channel.specs.State.{most_bytes, number_of, look, nowhere, queued}
 use Rattle.channel.specs.Call.{Route, direct, Call, put, flush, Answer, gave, refused}
 use Rattle.channel.specs.Call as Call
 use Rattle.channel.specs.Change as G
@@ -47,12 +47,14 @@ use Rattle.passes.specs.declared.Size.{Size}
 use Rattle.passes.specs.Keep.{queue_with, entries_with, kept_with}
 use Rattle.passes.specs.Keep as Keep
 use Rattle.passes.specs.Flush.{size_of}
-use Rattle.passes.specs.Pass.{entries_in, flushed_in}
+use Rattle.passes.specs.declared.Planned.TheVariants.{Frames}
+use Rattle.passes.specs.Pass.{entries_in, flushed_in, PlannedBy}
+use Rattle.passes.proofs.PassLaws.{stuck_is}
 use Rattle.passes.proofs.Definition.{window-flushed}
-use Rattle.passes.proofs.Rows.{kept_rows}
+use Rattle.passes.proofs.Rows.{base_of, kept_rows}
 use Rattle.pending.specs.declared.Left.{Left}
 use Rattle.pending.specs.declared.Flushing.{Flushing}
-use Rattle.pending.specs.Plan.{result_of, control_of, charged_by, plan_of, after_flush, out_size, control_size, left_by, filled_by, Known, seen_of, Goes}
+use Rattle.pending.specs.Plan.{result_of, control_of, charged_by, plan_of, after_flush, out_size, control_size, left_by, filled_by, Known, Ready, seen_of, Goes}
 use Rattle.pending.proofs.PlanLaws.{flush-limit, flush_goes, closed-place, open_place, settled_closed, settled_open, plan-last}
 
 -- a call on a sound state leaves it sound
@@ -233,6 +235,32 @@ module _ (t : T.Table) (q : List ℕ) (i : ℕ) (c : Record) (s : Size) (z : s �
     unfolding Keep.table_with
     sent-left more e el =
         filled_is _ _ (t.staged_used + control_size t q c) (t.sent_used + out_size t q c) (ap (λ m. t.staged_used + m) e) (ap (λ m. t.sent_used + m) size_is) el
+
+-- WHAT THE SIZE PASS SAYS of a record, where it finds the sizes
+
+module _ (r : Raw) (c : Record) (s : Size) (p : PlannedBy c (entries_in r.held r.queue) (Frames s)) where
+  pub planned_free : eqb c.recipient_maximum_packet_size 0 && any_byte (number_of c) (entries_in r.held r.queue) ≡ false
+  unfolding PlannedBy
+  planned_free = p.0
+
+  pub planned_sizes : s ≡ size_of (flushed_in r.held r.queue c)
+  unfolding PlannedBy
+  planned_sizes = p.1
+
+  pub planned_few : s.size ≤ 18 * most_bytes
+  unfolding PlannedBy
+  planned_few = p.2
+
+  pub planned_ready : Typed r → is_sound r ≡ true → (n i : ℕ) → HeldAt r.held n i → Ready r.held r.queue i c s
+  planned_ready ty sd n i h =
+      let b = base_of r ty sd in
+      record {
+        base = b;
+        place = h.place;
+        used = h.used;
+        free = stuck_is c r.held r.queue b ∙ planned_free;
+        sizes = planned_sizes;
+      }
 
 -- the record that was there, stored again
 pub as_it_was : (t : T.Table)

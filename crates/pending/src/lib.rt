@@ -1,6 +1,8 @@
 // Pending flush (document 01): what a channel queued is framed as far as the peer's window goes, by the passes of `passes`; then the
 // marks' messages, the record and the answer.
 
+#![tactic(auto)]
+
 ghost use Rattle.std.specs.Prelude.{◌≡◌, true, false, ◌&&◌, not, cond, ◌+◌, ◌-◌, ◌≤◌, ◌<◌, eqb, length, take};
 ghost use Rattle.octets.specs.Buf.{write};
 ghost use Rattle.channel.specs.Wire.{frames};
@@ -27,7 +29,7 @@ use passes::{Kept, Planned, Size, frame_entries, keep_rest, plan};
 use soundness::{Seen, is_sound, see};
 
 // What a pending flush gives back.
-#[derive(Drop)]
+#[derive(Clone, Copy)]
 pub struct Flushing {
     pub answer: ChannelFlushResult,
     pub table: Table,
@@ -35,7 +37,7 @@ pub struct Flushing {
 
 // What a flush leaves of a table: the entries, the used counts, the word of used marks, and the one record that may have changed.
 // The entries stand first, here and in `Done`: the compiler copies them once less.
-#[derive(Drop)]
+#[derive(Clone, Copy)]
 struct Left {
     kept: Kept,
     staged_used: usize,
@@ -46,21 +48,21 @@ struct Left {
 }
 
 // What a pending flush leaves of the table, and what it answers.
-#[derive(Drop)]
+#[derive(Clone, Copy)]
 struct Done {
     left: Left,
     answer: ChannelFlushResult,
 }
 
 // The lowest number that has an entry, if there is one.
-#[derive(Drop)]
+#[derive(Clone, Copy)]
 pub struct Least {
     pub found: bool,
     pub number: u32,
 }
 
 // What follows a turn of the flush of all: done, stopped at a channel, or on from a number.
-#[derive(Drop)]
+#[derive(Clone, Copy)]
 pub enum Next {
     Done,
     Stop(ChannelId, Refusal),
@@ -68,14 +70,14 @@ pub enum Next {
 }
 
 // A turn of the flush of all.
-#[derive(Drop)]
+#[derive(Clone, Copy)]
 pub struct Turn {
     pub next: Next,
     pub table: Table,
 }
 
 // What a pending flush of all gives back. The table stands first: behind the answer the compiler copies it twice more into the reply.
-#[derive(Drop)]
+#[derive(Clone, Copy)]
 pub struct AllFlushing {
     pub table: Table,
     pub answer: AllFlushed,

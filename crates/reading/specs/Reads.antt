@@ -1,6 +1,6 @@
 -- What a payload reads as, of the code's answer; and the definition's forms, one by one.
 -- Assumes nothing.
-use Rattle.std.specs.Prelude.{ℕ, ◌+◌, Bool, true, false, ◌&&◌, cond, List, length, leb, eqb}
+use Rattle.std.specs.Prelude.{ℕ, ◌+◌, Bool, ◌&&◌, cond, List, length, leb, eqb}
 use Rattle.channel.specs.declared.Kind.{Kind}
 use Rattle.channel.specs.Call.{confirmation, failure, credit, received, ended, closed}
 use Rattle.channel.specs.Read as R

@@ -1,4 +1,6 @@
 // Reading one incoming payload: which message it is, with its fields (document 01, Incoming).
+#![tactic(auto)]
+
 ghost use Rattle.std.specs.Prelude.{◌≡◌, ℕ, ◌≤◌};
 ghost use Rattle.channel.specs.declared.Kind.TheVariants as K;
 ghost use Rattle.channel.specs.Read.{int, string_ends, read_message};
@@ -10,7 +12,7 @@ use channel::{
 use octets::read_u32;
 
 // What a payload reads as.
-#[derive(Drop)]
+#[derive(Clone, Copy)]
 pub enum Read {
     Malformed,
     Reads(Message),

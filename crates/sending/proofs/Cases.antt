@@ -19,7 +19,7 @@ use Rattle.channel.specs.declared.Table as D
 use Rattle.channel.specs.declared.Refusal.TheVariants.{State, Unknown}
 use Rattle.channel.specs.declared.Sent.{Sent}
 use Rattle.channel.specs.declared.Sent.TheVariants.{Framed, Refused}
-use Rattle.channel.specs.Wire.{frames, packets}
+use Rattle.channel.specs.Wire.{packets}
 use Rattle.channel.specs.State.{most_entries, number_of, peer_of, nowhere, look, any_entry, stored}
 use Rattle.channel.specs.Call.{Form, Route, is_straight, direct, send, put, gave}
 use Rattle.channel.specs.Call as C

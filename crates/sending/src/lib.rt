@@ -1,6 +1,8 @@
 // Data, plain and extended (document 01). The four calls share one decision and one carry-out; the straight form and the staged
 // form differ in the buffer that is lent to the carry-out.
 
+#![tactic(auto)]
+
 ghost use Rattle.std.specs.Prelude.{◌≡◌, true, false, ◌+◌, ◌-◌, ◌≤◌, ◌<◌, length};
 ghost use Rattle.octets.specs.Buf.{write};
 ghost use Rattle.channel.specs.declared.Kind.TheVariants as K;
@@ -25,21 +27,21 @@ use octets::copy_in;
 use soundness::{Seen, see};
 
 // What a data call gives back.
-#[derive(Drop)]
+#[derive(Clone, Copy)]
 pub struct SentData {
     pub answer: Sent,
     pub table: Table,
 }
 
 // What a data call answers, and what it leaves of the table.
-#[derive(Drop)]
+#[derive(Clone, Copy)]
 struct Done {
     answer: Sent,
     change: Change,
 }
 
 // What is free: entries, bytes of the queue, and bytes of the buffer that frames go into.
-#[derive(Drop)]
+#[derive(Clone, Copy)]
 struct Free {
     entries: usize,
     queue: usize,
@@ -47,7 +49,7 @@ struct Free {
 }
 
 // What a data call will do, found before anything is stored: to queue all, or to frame so many bytes and queue the rest.
-#[derive(Drop)]
+#[derive(Clone, Copy)]
 enum Plan {
     Refuse(Refusal),
     Nothing,

@@ -10,7 +10,6 @@ use Rattle.laws.specs.Bits.{bit}
 use Rattle.channel.specs.declared.Record.{Record}
 use Rattle.channel.specs.declared.Table as D
 use Rattle.channel.specs.declared.Refusal.{Refusal}
-use Rattle.channel.specs.declared.Refusal.TheVariants as Refusal
 use Rattle.channel.specs.State.{place_count, most_bytes, nowhere, look}
 use Rattle.channel.specs.Call.{Call, Act, Answer, act}
 use Rattle.channel.specs.Raw.{places_of}

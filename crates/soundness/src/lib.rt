@@ -1,6 +1,8 @@
 // The test behind answer 1, which finds a call's channel on the way. Every call pays for it: a function that takes an element of the
 // table's arrays copies the table first, and one that only reads its counts or hands it on does not. So one function looks over the
 // places and the unused entries, and the functions for entries and marks copy the table only where it has some.
+#![tactic(auto)]
+
 ghost use Rattle.std.specs.Prelude.{◌≡◌, true, false, ◌&&◌, cond, ◌+◌, ◌≤◌, ◌<◌, ◌%◌, eqb, ltb, length, take};
 ghost use Rattle.laws.specs.Bits.{bit};
 ghost use Rattle.channel.specs.State.{place_count, numbers_in_all};
@@ -98,7 +100,7 @@ fn tried(h: u8, j: usize) -> usize
 
 // What a look over a table leaves: whether that much of it is sound, whether a used place has a mark, where a number's record stands, and
 // the hints, which are tested before they are believed.
-#[derive(Drop)]
+#[derive(Clone, Copy)]
 struct Look {
     sound: bool,
     marked: bool,
@@ -185,7 +187,7 @@ fn look_over(t: Table, n: ChannelId) -> Look
 }
 
 // What the entries tell: whether they are sound and, if they are, whether one is the channel's.
-#[derive(Drop)]
+#[derive(Clone, Copy)]
 struct Entries {
     sound: bool,
     waits: bool,
@@ -321,7 +323,7 @@ fn limits(t: Table, queue: &[u8], staged: &[u8], sent: &[u8]) -> bool
 
 // What a call sees of its channel: that the state is not sound, that no record has the number, or the record's place, the record, and
 // whether the channel has an entry.
-#[derive(Drop)]
+#[derive(Clone, Copy)]
 pub enum Seen {
     Unsound,
     Unknown,

@@ -1,5 +1,7 @@
 // Staged flush (document 01): whole frames move from the front of staged to sent; and drain, after which sent is empty.
 
+#![tactic(auto)]
+
 ghost use Rattle.std.specs.Prelude.{◌≡◌, ◌+◌, ◌≤◌, length, take};
 ghost use Rattle.octets.specs.Buf.{write, closed};
 ghost use Rattle.channel.specs.Call.{flush_staged, drain};
@@ -13,14 +15,14 @@ use octets::{close_gap, copy_in, put_zeros};
 use soundness::{is_sound, see};
 
 // What `flush` gives back.
-#[derive(Drop)]
+#[derive(Clone, Copy)]
 pub struct StagedFlushed {
     pub answer: Moved,
     pub table: Table,
 }
 
 // What `drain` gives back.
-#[derive(Drop)]
+#[derive(Clone, Copy)]
 pub struct Drained {
     pub answer: Acted,
     pub table: Table,

@@ -13,7 +13,6 @@ use Rattle.channel.specs.declared.Record.{Record}
 use Rattle.channel.specs.declared.Table as D
 use Rattle.channel.specs.declared.Charged.TheVariants.{Adjusted, Refused}
 use Rattle.channel.specs.declared.Refusal.{Refusal}
-use Rattle.channel.specs.declared.Refusal.TheVariants as Refusal
 use Rattle.channel.specs.Wire.{frame, frames, adjust_message}
 use Rattle.channel.specs.State.{Table, peer_of, nowhere, look, any_entry}
 use Rattle.channel.specs.Call.{act, adjust, window_of, has_pending, adjusted, window_is, pending_is, gave}

@@ -2,7 +2,6 @@
 -- Assumes nothing.
 use Rattle.std.specs.Prelude.{ℕ, ◌+◌, ◌/◌, ◌≤◌, ◌<◌, ◌≡◌, Bool, true, false}
 use Rattle.channel.specs.declared.Refusal.{Refusal}
-use Rattle.channel.specs.declared.Refusal.TheVariants as Refusal
 use Rattle.window.specs.declared.Plan.{Plan}
 use Rattle.window.specs.declared.Plan.TheVariants.{Refuse, Keep, Adjust}
 

@@ -1,4 +1,6 @@
 // The receive window and the two queries (document 01).
+#![tactic(auto)]
+
 ghost use Rattle.std.specs.Prelude.{◌≡◌, ◌≤◌};
 ghost use Rattle.channel.specs.declared.Charged.TheVariants.{Refused};
 ghost use Rattle.channel.specs.State.{most_bytes};
@@ -16,21 +18,21 @@ use lookup::{Change, changed, kept};
 use soundness::{Seen, see};
 
 // The table after the call, and the answer. The table stands first: behind the two bytes of the answer it is copied once more.
-#[derive(Drop)]
+#[derive(Clone, Copy)]
 pub struct Adjustment {
     pub table: Table,
     pub answer: Charged,
 }
 
 // The answer, and the change to the table.
-#[derive(Drop)]
+#[derive(Clone, Copy)]
 struct Effect {
     answer: Charged,
     change: Change,
 }
 
 // What is to be done for a record that was found.
-#[derive(Drop)]
+#[derive(Clone, Copy)]
 enum Plan {
     Refuse(Refusal),
     Keep,

@@ -1,0 +1,20 @@
+-- `pending::put_marks` meets its contract, by its test.
+use mathlib.Core.Path.{ap, ◌∙◌}
+use native.Mathlib.Omega.{arith}
+use lib.ListN.{length}
+use Rattle.octets.proofs.Laws.{length-write}
+use Rattle.pending.proofs.PlanLaws.{eof-room, eof-put}
+use Rattle.pending.proofs.put_marks.Goals as goal
+
+pub put_eof-requires : goal.put_eof-requires
+put_eof-requires c =
+    (eof-room c.args.peer.0 c.args.at _ c.args.eof c.args.close c.if-eof.true c.requires).0
+
+pub put_closing-requires : goal.put_closing-requires
+put_closing-requires c =
+    omega (arith, (eof-room c.args.peer.0 c.args.at _ c.args.eof c.args.close c.if-eof.true c.requires).1, ap length c.put_eof.ensures ∙ length-write _ _ _)
+
+pub returns-then-eof : goal.returns-then-eof
+returns-then-eof c =
+    let a = c.args in
+    eof-put a.peer.0 a.at a.eof a.close _ _ _ c.if-eof.true c.put_eof.ensures c.put_closing.ensures
