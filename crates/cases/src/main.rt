@@ -1,7 +1,9 @@
 // The cases of document 01 that are run and not proved: what each call answers is written out, and compared with what was worked out
 // by hand (the file `stdout`).
+#![tactic(auto)]
+
 use channel::{Acted, ChannelFlushResult, ChannelId, PeerNumber, Picked, Refusal, Sent, Table};
-use libc::STDOUT_FILENO;
+use std::io;
 
 // The number of a refusal, as document 01 has it.
 fn refusal_number(k: Refusal) -> u64 {
@@ -18,51 +20,36 @@ fn refusal_number(k: Refusal) -> u64 {
 }
 
 // A refusal, in words.
-fn show_refusal(k: Refusal) {
-    io::write_all(STDOUT_FILENO, b" refused ");
-    io::print_decimal(STDOUT_FILENO, refusal_number(k));
+fn show_refusal(rt: &impl Print, k: Refusal) -> io::Result<()> {
+    print!(rt; " refused {}", refusal_number(k))
 }
 
-fn show_picked(p: Picked) {
+fn show_picked(rt: &impl Print, p: Picked) -> io::Result<()> {
     match p {
-        Picked::Number(n) => {
-            io::write_all(STDOUT_FILENO, b" ");
-            io::print_decimal(STDOUT_FILENO, n.0 as u64);
-        }
-        Picked::Refused(k) => show_refusal(k),
+        Picked::Number(n) => print!(rt; " {}", n.0),
+        Picked::Refused(k) => show_refusal(rt, k),
     }
 }
 
-fn show_acted(a: Acted) {
+fn show_acted(rt: &impl Print, a: Acted) -> io::Result<()> {
     match a {
-        Acted::Done => {
-            io::write_all(STDOUT_FILENO, b" done");
-        }
-        Acted::Refused(k) => show_refusal(k),
+        Acted::Done => print!(rt; " done"),
+        Acted::Refused(k) => show_refusal(rt, k),
     }
 }
 
-fn show_sent(s: Sent) {
+fn show_sent(rt: &impl Print, s: Sent) -> io::Result<()> {
     match s {
-        Sent::Framed(n) => {
-            io::write_all(STDOUT_FILENO, b" framed ");
-            io::print_decimal(STDOUT_FILENO, n as u64);
-        }
-        Sent::Refused(k) => show_refusal(k),
+        Sent::Framed(n) => print!(rt; " framed {n}"),
+        Sent::Refused(k) => show_refusal(rt, k),
     }
 }
 
-fn show_flush(f: ChannelFlushResult) {
+fn show_flush(rt: &impl Print, f: ChannelFlushResult) -> io::Result<()> {
     match f {
-        ChannelFlushResult::Incomplete(n) => {
-            io::write_all(STDOUT_FILENO, b" incomplete ");
-            io::print_decimal(STDOUT_FILENO, n as u64);
-        }
-        ChannelFlushResult::Complete(c) => {
-            io::write_all(STDOUT_FILENO, b" complete ");
-            io::print_decimal(STDOUT_FILENO, c.wrote as u64);
-        }
-        ChannelFlushResult::Refused(k) => show_refusal(k),
+        ChannelFlushResult::Incomplete(n) => print!(rt; " incomplete {n}"),
+        ChannelFlushResult::Complete(c) => print!(rt; " complete {}", c.wrote),
+        ChannelFlushResult::Refused(k) => show_refusal(rt, k),
     }
 }
 
@@ -72,39 +59,39 @@ fn wide(b: u8) -> u64 {
 }
 
 // A buffer whole, in hexadecimal.
-fn show_bytes(bytes: &[u8]) {
+fn show_bytes(rt: &impl Print, bytes: &[u8]) -> io::Result<()> {
     for i in 0..bytes.len() {
-        io::print_hex(STDOUT_FILENO, wide(bytes[i]), 2);
+        print!(rt; "{:02x}", wide(bytes[i]))?;
     }
-    line();
+    line(rt)
 }
 
-fn line() {
-    io::write_all(STDOUT_FILENO, b"\n");
+fn line(rt: &impl Print) -> io::Result<()> {
+    print!(rt; "\n")
 }
 
 // One opening at the number that the table picks.
-fn open_one(t: Table) -> Table {
+fn open_one(rt: &impl Print, t: Table) -> io::Result<Table> {
     let lent = [0u8; 8];
     let o = numbers::new_channel(t, &lent, &lent, &lent, 64, 32);
     let answer = o.answer;
-    show_picked(answer);
+    show_picked(rt, answer)?;
     let next = o.table;
-    next
+    Ok(next)
 }
 
 // n openings, one after the other.
-fn open_many(start: Table, n: u32) -> Table {
+fn open_many(rt: &impl Print, start: Table, n: u32) -> io::Result<Table> {
     let mut t = start;
     for _ in 0..n {
-        t = open_one(t);
+        t = open_one(rt, t)?;
     }
-    line();
-    t
+    line(rt)?;
+    Ok(t)
 }
 
 // An opening for the peer at a number.
-fn open_at(t: Table, n: u32) -> Table {
+fn open_at(rt: &impl Print, t: Table, n: u32) -> io::Result<Table> {
     let lent = [0u8; 8];
     let o = numbers::open_for_peer(
         t,
@@ -119,193 +106,197 @@ fn open_at(t: Table, n: u32) -> Table {
         3,
     );
     let answer = o.answer;
-    show_acted(answer);
+    show_acted(rt, answer)?;
     let next = o.table;
-    next
+    Ok(next)
 }
 
 // The 33rd opening is refused, of every kind; and a used number is refused first.
-fn full_table() {
-    io::write_all(STDOUT_FILENO, b"33 openings:");
-    let full = open_many(Table::new(), 33);
-    io::write_all(STDOUT_FILENO, b"a number alone:");
+fn full_table(rt: &impl Print) -> io::Result<()> {
+    print!(rt; "33 openings:")?;
+    let full = open_many(rt, Table::new(), 33)?;
+    print!(rt; "a number alone:")?;
     let lent = [0u8; 8];
     let o = numbers::new_channel_id(full, &lent, &lent, &lent);
     let answer = o.answer;
-    show_picked(answer);
-    line();
-    io::write_all(STDOUT_FILENO, b"for the peer at 34, at 33:");
-    let same = open_at(full, 34);
-    let _ = open_at(same, 33);
-    line();
+    show_picked(rt, answer)?;
+    line(rt)?;
+    print!(rt; "for the peer at 34, at 33:")?;
+    let same = open_at(rt, full, 34)?;
+    let _ = open_at(rt, same, 33)?;
+    line(rt)
 }
 
 // Numbers go round at 2^32 and pass over those in use; a number picked alone is not given again at once.
-fn numbers_go_round() {
-    io::write_all(
-        STDOUT_FILENO,
-        b"from 4294967294, with 4294967295 and 1 in use:",
-    );
+fn numbers_go_round(rt: &impl Print) -> io::Result<()> {
+    print!(rt; "from 4294967294, with 4294967295 and 1 in use:")?;
     let mut t = Table::new();
     t.last = 4294967294;
-    let one = open_at(t, 4294967295);
-    let two = open_at(one, 1);
-    let three = open_many(two, 3);
-    io::write_all(STDOUT_FILENO, b"a number alone, then an opening:");
+    let one = open_at(rt, t, 4294967295)?;
+    let two = open_at(rt, one, 1)?;
+    let three = open_many(rt, two, 3)?;
+    print!(rt; "a number alone, then an opening:")?;
     let lent = [0u8; 8];
     let o = numbers::new_channel_id(three, &lent, &lent, &lent);
     let answer = o.answer;
-    show_picked(answer);
+    show_picked(rt, answer)?;
     let next = o.table;
-    let _ = open_many(next, 1);
+    let _ = open_many(rt, next, 1)?;
+    Ok(())
 }
 
 // A state that is not sound is refused: a used place with a number that another has.
-fn unsound() {
-    io::write_all(STDOUT_FILENO, b"two records of one number:");
+fn unsound(rt: &impl Print) -> io::Result<()> {
+    print!(rt; "two records of one number:")?;
     let mut t = Table::new();
     t.used = 3;
-    let _ = open_many(t, 1);
+    let _ = open_many(rt, t, 1)?;
+    Ok(())
 }
 
 // Data on channel 2 with the peer's window 5 and limit 3, over buffers that the caller lends.
-fn send_on_two(queue: &mut [u8], staged: &mut [u8], bytes: &[u8]) {
-    let t = open_at(Table::new(), 2);
+fn send_on_two(
+    rt: &impl Print,
+    queue: &mut [u8],
+    staged: &mut [u8],
+    bytes: &[u8],
+) -> io::Result<()> {
+    let t = open_at(rt, Table::new(), 2)?;
     let sent = [0u8; 8];
     let o = sending::data(t, queue, staged, &sent, ChannelId(2), bytes, false);
     let answer = o.answer;
-    show_sent(answer);
-    line();
+    show_sent(rt, answer)?;
+    line(rt)
 }
 
 // Packets of 3 and 2, frames of 31 bytes in all, 3 bytes queued: every byte of both buffers.
-fn window_five() {
-    io::write_all(STDOUT_FILENO, b"window 5, limit 3, 8 bytes:");
+fn window_five(rt: &impl Print) -> io::Result<()> {
+    print!(rt; "window 5, limit 3, 8 bytes:")?;
     let mut queue = [0u8; 8];
     let mut staged = [0u8; 40];
-    send_on_two(&mut queue, &mut staged, b"abcdefgh");
-    io::write_all(STDOUT_FILENO, b"staged: ");
-    show_bytes(&staged);
-    io::write_all(STDOUT_FILENO, b"queue: ");
-    show_bytes(&queue);
+    send_on_two(rt, &mut queue, &mut staged, b"abcdefgh")?;
+    print!(rt; "staged: ")?;
+    show_bytes(rt, &staged)?;
+    print!(rt; "queue: ")?;
+    show_bytes(rt, &queue)
 }
 
 // A 3-byte plain packet takes 16 bytes.
-fn room_for_three() {
+fn room_for_three(rt: &impl Print) -> io::Result<()> {
     let mut queue = [0u8; 8];
     let mut fifteen = [0u8; 15];
     let mut sixteen = [0u8; 16];
-    io::write_all(STDOUT_FILENO, b"3 bytes, 15 free in staged:");
-    send_on_two(&mut queue, &mut fifteen, b"abc");
-    show_bytes(&fifteen);
-    io::write_all(STDOUT_FILENO, b"3 bytes, 16 free in staged:");
-    send_on_two(&mut queue, &mut sixteen, b"abc");
-    show_bytes(&sixteen);
+    print!(rt; "3 bytes, 15 free in staged:")?;
+    send_on_two(rt, &mut queue, &mut fifteen, b"abc")?;
+    show_bytes(rt, &fifteen)?;
+    print!(rt; "3 bytes, 16 free in staged:")?;
+    send_on_two(rt, &mut queue, &mut sixteen, b"abc")?;
+    show_bytes(rt, &sixteen)
 }
 
 // Data queued during rekey.
-fn put_by(t: Table, queue: &mut [u8], n: u32, bytes: &[u8]) -> Table {
+fn put_by(rt: &impl Print, t: Table, queue: &mut [u8], n: u32, bytes: &[u8]) -> io::Result<Table> {
     let mut staged = [0u8; 8];
     let sent = [0u8; 8];
     let o = sending::data(t, queue, &mut staged, &sent, ChannelId(n), bytes, true);
     let answer = o.answer;
-    show_sent(answer);
+    show_sent(rt, answer)?;
     let next = o.table;
-    next
+    Ok(next)
 }
 
 // Channel 2 is flushed into staged.
-fn flush_two(t: Table, queue: &mut [u8], staged: &mut [u8]) -> Table {
+fn flush_two(rt: &impl Print, t: Table, queue: &mut [u8], staged: &mut [u8]) -> io::Result<Table> {
     let sent = [0u8; 8];
     let o = pending::flush_pending(t, queue, staged, &sent, ChannelId(2));
     let answer = o.answer;
-    show_flush(answer);
-    line();
+    show_flush(rt, answer)?;
+    line(rt)?;
     let next = o.table;
-    next
+    Ok(next)
 }
 
 // Channels 2 and 3, each with the peer's window 5 and limit 3.
-fn open_two() -> Table {
-    let t = open_at(Table::new(), 2);
-    open_at(t, 3)
+fn open_two(rt: &impl Print) -> io::Result<Table> {
+    let t = open_at(rt, Table::new(), 2)?;
+    open_at(rt, t, 3)
 }
 
 // Entries of two channels in turn, and an empty one between two others.
-fn in_turn() {
-    io::write_all(STDOUT_FILENO, b"2 ab, 3 xy, 2 nothing, 2 cde, 3 z:");
+fn in_turn(rt: &impl Print) -> io::Result<()> {
+    print!(rt; "2 ab, 3 xy, 2 nothing, 2 cde, 3 z:")?;
     let mut queue = [0u8; 12];
     let mut staged = [0u8; 40];
-    let a = put_by(open_two(), &mut queue, 2, b"ab");
-    let b = put_by(a, &mut queue, 3, b"xy");
-    let c = put_by(b, &mut queue, 2, b"");
-    let d = put_by(c, &mut queue, 2, b"cde");
-    let e = put_by(d, &mut queue, 3, b"z");
-    let _ = flush_two(e, &mut queue, &mut staged);
-    show_bytes(&staged);
-    show_bytes(&queue);
+    let a = put_by(rt, open_two(rt)?, &mut queue, 2, b"ab")?;
+    let b = put_by(rt, a, &mut queue, 3, b"xy")?;
+    let c = put_by(rt, b, &mut queue, 2, b"")?;
+    let d = put_by(rt, c, &mut queue, 2, b"cde")?;
+    let e = put_by(rt, d, &mut queue, 3, b"z")?;
+    let _ = flush_two(rt, e, &mut queue, &mut staged)?;
+    show_bytes(rt, &staged)?;
+    show_bytes(rt, &queue)
 }
 
 // The window ends inside the second entry.
-fn window_ends() {
-    io::write_all(STDOUT_FILENO, b"2 abcd, 3 x, 2 efg:");
+fn window_ends(rt: &impl Print) -> io::Result<()> {
+    print!(rt; "2 abcd, 3 x, 2 efg:")?;
     let mut queue = [0u8; 12];
     let mut staged = [0u8; 48];
-    let a = put_by(open_two(), &mut queue, 2, b"abcd");
-    let b = put_by(a, &mut queue, 3, b"x");
-    let c = put_by(b, &mut queue, 2, b"efg");
-    let _ = flush_two(c, &mut queue, &mut staged);
-    show_bytes(&staged);
-    show_bytes(&queue);
+    let a = put_by(rt, open_two(rt)?, &mut queue, 2, b"abcd")?;
+    let b = put_by(rt, a, &mut queue, 3, b"x")?;
+    let c = put_by(rt, b, &mut queue, 2, b"efg")?;
+    let _ = flush_two(rt, c, &mut queue, &mut staged)?;
+    show_bytes(rt, &staged)?;
+    show_bytes(rt, &queue)
 }
 
 // The whole queue is freed.
-fn all_freed() {
-    io::write_all(STDOUT_FILENO, b"2 abc, in a queue of 3:");
+fn all_freed(rt: &impl Print) -> io::Result<()> {
+    print!(rt; "2 abc, in a queue of 3:")?;
     let mut queue = [0u8; 3];
     let mut staged = [0u8; 16];
-    let a = put_by(open_two(), &mut queue, 2, b"abc");
-    let _ = flush_two(a, &mut queue, &mut staged);
-    show_bytes(&staged);
-    show_bytes(&queue);
+    let a = put_by(rt, open_two(rt)?, &mut queue, 2, b"abc")?;
+    let _ = flush_two(rt, a, &mut queue, &mut staged)?;
+    show_bytes(rt, &staged)?;
+    show_bytes(rt, &queue)
 }
 
 // An empty entry on channel 2: it takes no byte of the queue.
-fn put_nothing(t: Table) -> Table {
+fn put_nothing(rt: &impl Print, t: Table) -> io::Result<Table> {
     let mut queue = [0u8; 1];
-    put_by(t, &mut queue, 2, b"")
+    put_by(rt, t, &mut queue, 2, b"")
 }
 
 // n of them.
-fn put_empty(start: Table, n: u32) -> Table {
+fn put_empty(rt: &impl Print, start: Table, n: u32) -> io::Result<Table> {
     let mut t = start;
     for _ in 0..n {
-        t = put_nothing(t);
+        t = put_nothing(rt, t)?;
     }
-    line();
-    t
+    line(rt)?;
+    Ok(t)
 }
 
 // 64 entries, and none more; a flush takes them all.
-fn most_entries() {
-    io::write_all(STDOUT_FILENO, b"65 empty entries:");
-    let full = put_empty(open_two(), 65);
-    io::write_all(STDOUT_FILENO, b"flushed, and one more entry:");
+fn most_entries(rt: &impl Print) -> io::Result<()> {
+    print!(rt; "65 empty entries:")?;
+    let full = put_empty(rt, open_two(rt)?, 65)?;
+    print!(rt; "flushed, and one more entry:")?;
     let mut queue = [0u8; 1];
     let mut staged = [0u8; 1];
-    let none = flush_two(full, &mut queue, &mut staged);
-    let _ = put_nothing(none);
-    line();
+    let none = flush_two(rt, full, &mut queue, &mut staged)?;
+    let _ = put_nothing(rt, none)?;
+    line(rt)
 }
 
-fn main() {
-    full_table();
-    numbers_go_round();
-    unsound();
-    window_five();
-    room_for_three();
-    in_turn();
-    window_ends();
-    all_freed();
-    most_entries();
+fn main(rt: HostRuntime) -> io::Result<()> {
+    full_table(&rt)?;
+    numbers_go_round(&rt)?;
+    unsound(&rt)?;
+    window_five(&rt)?;
+    room_for_three(&rt)?;
+    in_turn(&rt)?;
+    window_ends(&rt)?;
+    all_freed(&rt)?;
+    most_entries(&rt)
 }

@@ -1,12 +1,17 @@
 // What the test behind answer 1 costs, beside one copy of the table: `soundness::see` over tables that are fuller and fuller, and a copy
 // of the same ones, in turn. Every count that is written is worked out by what is timed, so nothing of it can be left out. Times are
 // written where the input begins with a `t`; without it each case is run a few times and only the counts are written.
+#![tactic(auto)]
+
 use channel::{ChannelId, PeerNumber, Table, zero_record};
-use libc::{STDIN_FILENO, STDOUT_FILENO};
+use input::read_full;
+use std::io;
+use std::io::Read;
+use std::time::CpuClock;
 
 // What the passes over one table came to: the fewest microseconds of a pass of each kind, how often the table was sound, and the windows
 // that were read from its copies.
-#[derive(Drop)]
+#[derive(Clone, Copy)]
 struct Measured {
     sound: u64,
     copy: u64,
@@ -92,12 +97,14 @@ fn copy(t: Table, rounds: u32) -> u64 {
 }
 
 // The processor time used so far, in microseconds.
-fn micros() -> u64 {
-    let c = libc::clock();
-    if c >= 0 {
-        return c as u64;
+fn micros(rt: &impl CpuClock) -> u64 {
+    match rt.process_cpu_time() {
+        Ok(used) => used
+            .as_secs()
+            .saturating_mul(1000000)
+            .saturating_add(u64::from(used.subsec_micros())),
+        Err(_) => 0,
     }
-    0
 }
 
 // The smaller of two numbers.
@@ -106,12 +113,12 @@ fn least(a: u64, b: u64) -> u64 {
 }
 
 // One pass more of each kind.
-fn pass(t: Table, rounds: u32, m: Measured) -> Measured {
-    let start = micros();
+fn pass(rt: &impl CpuClock, t: Table, rounds: u32, m: Measured) -> Measured {
+    let start = micros(rt);
     let yes = ask(t, rounds);
-    let between = micros();
+    let between = micros(rt);
     let read = copy(t, rounds);
-    let end = micros();
+    let end = micros(rt);
     Measured {
         sound: least(m.sound, std::num::wrapping_sub_u64(between, start)),
         copy: least(m.copy, std::num::wrapping_sub_u64(end, between)),
@@ -121,7 +128,7 @@ fn pass(t: Table, rounds: u32, m: Measured) -> Measured {
 }
 
 // Several passes, of each kind in turn.
-fn measure(t: Table, rounds: u32, passes: u32) -> Measured {
+fn measure(rt: &impl CpuClock, t: Table, rounds: u32, passes: u32) -> Measured {
     let mut m = Measured {
         sound: NEVER,
         copy: NEVER,
@@ -129,70 +136,66 @@ fn measure(t: Table, rounds: u32, passes: u32) -> Measured {
         read: 0,
     };
     for _ in 0..passes {
-        m = pass(t, rounds, m);
+        m = pass(rt, t, rounds, m);
     }
     m
 }
 
 // A number with two decimals, given in hundredths.
-fn show_hundredths(n: u64) {
-    io::print_decimal(STDOUT_FILENO, n / 100);
-    io::write_all(STDOUT_FILENO, b".");
-    io::print_decimal(STDOUT_FILENO, n % 100 / 10);
-    io::print_decimal(STDOUT_FILENO, n % 10);
+fn show_hundredths(rt: &impl Print, n: u64) -> io::Result<()> {
+    print!(rt; "{}.{}{}", n / 100, n % 100 / 10, n % 10)
 }
 
 // Of 100,000 rounds, the nanoseconds of one: 100 microseconds of the whole are a nanosecond of each.
-fn show_times(m: Measured) {
-    io::write_all(STDOUT_FILENO, b", ");
-    show_hundredths(m.sound);
-    io::write_all(STDOUT_FILENO, b" ns, a copy ");
-    show_hundredths(m.copy);
-    io::write_all(STDOUT_FILENO, b" ns, ratio ");
+fn show_times(rt: &impl Print, m: Measured) -> io::Result<()> {
+    print!(rt; ", ")?;
+    show_hundredths(rt, m.sound)?;
+    print!(rt; " ns, a copy ")?;
+    show_hundredths(rt, m.copy)?;
+    print!(rt; " ns, ratio ")?;
     if m.sound < NEVER {
         if m.copy > 0 {
-            show_hundredths(m.sound * 100 / m.copy);
+            return show_hundredths(rt, m.sound * 100 / m.copy);
         }
     }
+    Ok(())
 }
 
 // One case: its counts, and its times where they are asked for.
-fn show(t: Table, timed: bool) {
+fn show(rt: &(impl Print + CpuClock), t: Table, timed: bool) -> io::Result<()> {
     let m = if timed {
-        measure(t, 100000, 7)
+        measure(rt, t, 100000, 7)
     } else {
-        measure(t, 100, 1)
+        measure(rt, t, 100, 1)
     };
-    io::write_all(STDOUT_FILENO, b": sound ");
-    io::print_decimal(STDOUT_FILENO, m.yes);
-    io::write_all(STDOUT_FILENO, b" times, windows read ");
-    io::print_decimal(STDOUT_FILENO, m.read);
+    print!(rt; ": sound {} times, windows read {}", m.yes, m.read)?;
     if timed {
-        show_times(m);
+        show_times(rt, m)?;
     }
-    io::write_all(STDOUT_FILENO, b"\n");
+    print!(rt; "\n")
 }
 
 // Every case, each fuller than the one before.
-fn show_all(timed: bool) {
-    io::write_all(STDOUT_FILENO, b"no channel");
-    show(Table::new(), timed);
-    io::write_all(STDOUT_FILENO, b"2 channels, 1 entry");
-    show(put_at(open_until(Table::new(), 4), 2), timed);
-    io::write_all(STDOUT_FILENO, b"32 channels");
+fn show_all(rt: &(impl Print + CpuClock), timed: bool) -> io::Result<()> {
+    print!(rt; "no channel")?;
+    show(rt, Table::new(), timed)?;
+    print!(rt; "2 channels, 1 entry")?;
+    show(rt, put_at(open_until(Table::new(), 4), 2), timed)?;
+    print!(rt; "32 channels")?;
     let open = open_until(Table::new(), 34);
-    show(open, timed);
-    io::write_all(STDOUT_FILENO, b"32 channels, 64 entries");
-    show(put_until(put_until(open, 34), 34), timed);
+    show(rt, open, timed)?;
+    print!(rt; "32 channels, 64 entries")?;
+    show(rt, put_until(put_until(open, 34), 34), timed)
 }
 
 // The first byte of the input is a `t`.
-fn timed() -> bool {
+fn timed(reader: &mut impl Read) -> io::Result<bool> {
     let mut word = [0u8; 1];
-    libc::read(STDIN_FILENO, &mut word);
-    word[0] == b't'
+    let _ = read_full(reader, &mut word)?;
+    Ok(word[0] == b't')
 }
 
-fn main() {
-    show_all(timed());
+fn main(rt: HostRuntime) -> io::Result<()> {
+    let timed = timed(&mut rt.stdin())?;
+    show_all(&rt, timed)
 }

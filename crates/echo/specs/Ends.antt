@@ -4,6 +4,6 @@ use Rattle.std.specs.Prelude.{ℕ, ◌+◌, ◌≤◌, List, length}
 use Rattle.echo.specs.declared.Next.{Next}
 use Rattle.echo.specs.declared.Next.TheVariants.{Over, Frame}
 
-unfoldable pub Ends : List ℕ → ℕ → Next → Type 0
+abbrev pub Ends : List ℕ → ℕ → Next → Type 0
 Ends input at Over = Unit {0}
 Ends input at (Frame e) = (at + 4 ≤ e) × (e ≤ length input)

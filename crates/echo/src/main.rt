@@ -1,14 +1,17 @@
 // The echo program of document 01: a run of frames on standard input, two channels that send back what they get, and what is sent on
 // standard output.
+#![tactic(auto)]
+
 ghost use Rattle.std.specs.Prelude.{◌≡◌, ◌≤◌, length};
 ghost use Rattle.echo.specs.Ends.{Ends};
 
 use channel::{ChannelData, ChannelId, Kind, Message, Table, Taken};
-use libc::{STDIN_FILENO, STDOUT_FILENO};
+use input::read_full;
 use octets::read_u32;
+use std::io;
 
 // A whole frame with its end, or no more of them.
-#[derive(Drop)]
+#[derive(Clone, Copy)]
 enum Next {
     Over,
     Frame(usize),
@@ -132,28 +135,42 @@ fn feed(t: Table, queue: &mut [u8], staged: &mut [u8], sent: &mut [u8], payload:
 }
 
 // Writes the used part of sent, which is never longer than the buffer.
-fn write_sent(sent: &[u8], used: usize) {
+fn write_sent(rt: &impl Print, sent: &[u8], used: usize) -> io::Result<()> {
     if used <= sent.len() {
-        io::write_all(STDOUT_FILENO, &sent[..used]);
+        return rt.write_all(&sent[..used]);
     }
+    Ok(())
 }
 
 // What follows each frame: all pending flushed in the writer form, staged flushed, sent written out and drained.
-fn settle(t: Table, queue: &mut [u8], staged: &mut [u8], sent: &mut [u8]) -> Table {
+fn settle(
+    rt: &impl Print,
+    t: Table,
+    queue: &mut [u8],
+    staged: &mut [u8],
+    sent: &mut [u8],
+) -> io::Result<Table> {
     let a = pending::flush_all_pending_with_writer(t, queue, staged, sent, false);
     let flushed = a.table;
     let b = staging::flush(flushed, &queue[..], staged, sent, false);
     let moved = b.table;
-    write_sent(&sent[..], moved.sent_used);
+    write_sent(rt, &sent[..], moved.sent_used)?;
     let c = staging::drain(moved, &queue[..], &staged[..], sent);
     let next = c.table;
-    next
+    Ok(next)
 }
 
 // A frame is fed in, and what follows it is done.
-fn turn(t: Table, queue: &mut [u8], staged: &mut [u8], sent: &mut [u8], payload: &[u8]) -> Table {
+fn turn(
+    rt: &impl Print,
+    t: Table,
+    queue: &mut [u8],
+    staged: &mut [u8],
+    sent: &mut [u8],
+    payload: &[u8],
+) -> io::Result<Table> {
     let fed = feed(t, queue, staged, sent, payload);
-    settle(fed, queue, staged, sent)
+    settle(rt, fed, queue, staged, sent)
 }
 
 // Where the frame that starts at a place ends, if it is whole.
@@ -172,26 +189,33 @@ fn next_frame(input: &[u8], at: usize) -> Next
 }
 
 // The frames one after the other, as far as they are whole.
-fn run(start: Table, input: &[u8], queue: &mut [u8], staged: &mut [u8], sent: &mut [u8]) {
+fn run(
+    rt: &impl Print,
+    start: Table,
+    input: &[u8],
+    queue: &mut [u8],
+    staged: &mut [u8],
+    sent: &mut [u8],
+) -> io::Result<()> {
     let mut t = start;
     let mut at = 0;
     loop {
         let next = next_frame(input, at);
         let Next::Frame(end) = next else {
-            return;
+            return Ok(());
         };
-        t = turn(t, queue, staged, sent, &input[at + 4..end]);
+        t = turn(rt, t, queue, staged, sent, &input[at + 4..end])?;
         at = end;
     }
 }
 
-fn main() {
+fn main(rt: HostRuntime) -> io::Result<()> {
     let mut input = [0u8; 16384];
-    let n = io::read_full(STDIN_FILENO, &mut input);
+    let n = read_full(&mut rt.stdin(), &mut input)?;
     let mut queue = [0u8; 8192];
     let mut staged = [0u8; 16384];
     let mut sent = [0u8; 16384];
     let two = open(Table::new(), &queue, &staged, &sent);
     let three = open(two, &queue, &staged, &sent);
-    run(three, &input[..n], &mut queue, &mut staged, &mut sent);
+    run(&rt, three, &input[..n], &mut queue, &mut staged, &mut sent)
 }

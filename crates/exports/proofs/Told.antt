@@ -1,8 +1,6 @@
 -- The law that every exported call goes by, and that one call goes on from the other.
 -- Assumes nothing.
-use Prim.Native.Nat.{ℕ}
-use mathlib.Core.Path.{◌≡◌, refl, ap, ◌∙◌}
-use mathlib.Core.List.{List}
+use Rattle.std.proofs.Common.{◌≡◌, ℕ, List, refl, ap, ◌∙◌}
 use Rattle.channel.specs.declared.Table.{Table}
 use Rattle.channel.specs.Call.{Answer}
 use Rattle.channel.specs.Called.{Outcome, lent, outcome}

@@ -9,6 +9,8 @@
 // - the structs have C's layout, with the fields in the order given: `Reply` here, `Numbers` in crate `answers`, and `Table`, `Record`, `Entry`
 //   and `StoredKind` in crate `channel`, where `ChannelId` and `PeerNumber` are one 32-bit number each.
 
+#![tactic(auto)]
+
 ghost use Rattle.std.specs.Prelude.{◌≡◌, false};
 ghost use Rattle.channel.specs.declared.Kind.TheVariants as K;
 ghost use Rattle.channel.specs.Call as C;
@@ -24,7 +26,7 @@ use channel::{ChannelId, PeerNumber, Table};
 
 // What every call gives back but a query, which changes nothing and gives its answer alone: the answer in numbers, and the table.
 #[repr(C)]
-#[derive(Drop)]
+#[derive(Clone, Copy)]
 pub struct Reply {
     pub answer: Numbers,
     pub table: Table,

@@ -13,7 +13,7 @@ use pending::{AllFlushing, Flushing};
 use sending::SentData;
 
 // What a call answers and the table after it. `size` is the count of the script's bytes that the call took; 0 stands for what is no call.
-#[derive(Drop)]
+#[derive(Clone, Copy)]
 pub struct Played {
     pub answer: Numbers,
     pub table: Table,

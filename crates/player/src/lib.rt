@@ -1,4 +1,6 @@
 // Scripts of calls: the next call is read from a script's bytes and made on a table over three lent buffers. docs/REPLAY.md has the format.
+#![tactic(auto)]
+
 mod call;
 mod fields;
 mod lent;

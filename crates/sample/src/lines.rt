@@ -2,6 +2,7 @@
 use channel::{Entry, Record, Table};
 use player::u32_at;
 use shown::{is_used, put, put_fields, put_hex, put_kind, put_line, put_number};
+use std::io;
 
 // A record's own number, as one that can pass all of them.
 fn number_of(r: Record) -> u64 {
@@ -29,55 +30,77 @@ fn lower(used: u32, i: usize, r: Record, from: u64, least: u64) -> u64 {
 }
 
 // The line of a record, if it is a used one with the number.
-fn show_if(out: &mut [u8; 16384], start: usize, used: u32, i: usize, r: Record, n: u64) -> usize {
+fn show_if(
+    rt: &impl Print,
+    out: &mut [u8; 16384],
+    start: usize,
+    used: u32,
+    i: usize,
+    r: Record,
+    n: u64,
+) -> io::Result<usize> {
     if is_used(used, i) & (number_of(r) == n) {
-        let mut at = put(out, start, b'c');
-        at = put_fields(out, at, r);
-        return put_line(out, at);
+        let mut at = put(rt, out, start, b'c')?;
+        at = put_fields(rt, out, at, r)?;
+        return put_line(rt, out, at);
     }
-    start
+    Ok(start)
 }
 
 // The line of the record with a number.
 fn show_record(
+    rt: &impl Print,
     out: &mut [u8; 16384],
     start: usize,
     used: u32,
     records: [Record; 32],
     n: u64,
-) -> usize {
+) -> io::Result<usize> {
     let mut at = start;
     for i in 0..32usize {
-        at = show_if(out, at, used, i, records[i], n);
+        at = show_if(rt, out, at, used, i, records[i], n)?;
     }
-    at
+    Ok(at)
 }
 
 // A line for each record, ascending in its number.
-fn show_records(out: &mut [u8; 16384], start: usize, used: u32, records: [Record; 32]) -> usize {
+fn show_records(
+    rt: &impl Print,
+    out: &mut [u8; 16384],
+    start: usize,
+    used: u32,
+    records: [Record; 32],
+) -> io::Result<usize> {
     let mut at = start;
     let mut from: u64 = 0;
     for _ in 0..32usize {
         let n = least_from(used, records, from);
         if n >= 4294967296 {
-            return at;
+            return Ok(at);
         }
-        at = show_record(out, at, used, records, n);
+        at = show_record(rt, out, at, used, records, n)?;
         from = n + 1;
     }
-    at
+    Ok(at)
 }
 
 // The bytes from one place to another in hexadecimal after a space, if there are any.
-fn put_part(out: &mut [u8; 16384], start: usize, buf: &[u8], from: usize, end: usize) -> usize {
+fn put_part(
+    rt: &impl Print,
+    out: &mut [u8; 16384],
+    start: usize,
+    buf: &[u8],
+    from: usize,
+    end: usize,
+) -> io::Result<usize> {
     if end > buf.len() {
-        return start;
+        return Ok(start);
     }
     if from >= end {
-        return start;
+        return Ok(start);
     }
-    let at = put(out, start, b' ');
-    put_hex(out, at, &buf[from..end])
+    let at = put(rt, out, start, b' ')?;
+    put_hex(rt, out, at, &buf[from..end])
 }
 
 // Where an entry's bytes end that start at `from`, and no further than the buffer goes.
@@ -93,50 +116,58 @@ fn entry_end(from: usize, left: u32, buf: &[u8]) -> usize {
 
 // The line of an entry of the channel with a number, whose bytes start at `from`.
 fn show_entry(
+    rt: &impl Print,
     out: &mut [u8; 16384],
     start: usize,
     e: Entry,
     n: u64,
     queue: &[u8],
     from: usize,
-) -> usize {
+) -> io::Result<usize> {
     let number = e.number;
     let kind = e.kind;
     if number.0 as u64 != n {
-        return start;
+        return Ok(start);
     }
-    let mut at = put(out, start, b'e');
-    at = put_number(out, at, n);
-    at = put_kind(out, at, kind);
-    at = put_number(out, at, e.left as u64);
-    at = put_part(out, at, queue, from, entry_end(from, e.left, queue));
-    put_line(out, at)
+    let mut at = put(rt, out, start, b'e')?;
+    at = put_number(rt, out, at, n)?;
+    at = put_kind(rt, out, at, kind)?;
+    at = put_number(rt, out, at, e.left as u64)?;
+    at = put_part(rt, out, at, queue, from, entry_end(from, e.left, queue))?;
+    put_line(rt, out, at)
 }
 
 // A line for each entry of the channel with a number, in order of acceptance.
 fn show_own(
+    rt: &impl Print,
     out: &mut [u8; 16384],
     start: usize,
     count: usize,
     entries: [Entry; 64],
     n: u64,
     queue: &[u8],
-) -> usize {
+) -> io::Result<usize> {
     let mut at = start;
     let mut from: usize = 0;
     for i in 0..64usize {
         if i >= count {
-            return at;
+            return Ok(at);
         }
         let e = entries[i];
-        at = show_entry(out, at, e, n, queue, from);
+        at = show_entry(rt, out, at, e, n, queue, from)?;
         from = entry_end(from, e.left, queue);
     }
-    at
+    Ok(at)
 }
 
 // A line for each entry, ascending in its number, then in order of acceptance.
-fn show_entries(out: &mut [u8; 16384], start: usize, t: Table, queue: &[u8]) -> usize {
+fn show_entries(
+    rt: &impl Print,
+    out: &mut [u8; 16384],
+    start: usize,
+    t: Table,
+    queue: &[u8],
+) -> io::Result<usize> {
     let mut at = start;
     let mut from: u64 = 0;
     let records = t.records;
@@ -146,12 +177,12 @@ fn show_entries(out: &mut [u8; 16384], start: usize, t: Table, queue: &[u8]) -> 
     for _ in 0..32usize {
         let n = least_from(used, records, from);
         if n >= 4294967296 {
-            return at;
+            return Ok(at);
         }
-        at = show_own(out, at, count, entries, n, queue);
+        at = show_own(rt, out, at, count, entries, n, queue)?;
         from = n + 1;
     }
-    at
+    Ok(at)
 }
 
 // Where the frame ends that starts at a place; 0 where none does that ends within the used part.
@@ -174,52 +205,61 @@ pub fn frame_end(buf: &[u8], used: usize, place: usize) -> usize {
 
 // The line of a frame: its payload.
 fn show_frame(
+    rt: &impl Print,
     out: &mut [u8; 16384],
     start: usize,
     name: u8,
     buf: &[u8],
     place: usize,
     end: usize,
-) -> usize {
-    let mut at = put(out, start, name);
+) -> io::Result<usize> {
+    let mut at = put(rt, out, start, name)?;
     if place < end {
         if end - place >= 4 {
-            at = put_part(out, at, buf, place + 4, end);
+            at = put_part(rt, out, at, buf, place + 4, end)?;
         }
     }
-    put_line(out, at)
+    put_line(rt, out, at)
 }
 
 // A line for each frame of a buffer, in order.
-fn show_frames(out: &mut [u8; 16384], start: usize, name: u8, used: usize, buf: &[u8]) -> usize {
+fn show_frames(
+    rt: &impl Print,
+    out: &mut [u8; 16384],
+    start: usize,
+    name: u8,
+    used: usize,
+    buf: &[u8],
+) -> io::Result<usize> {
     let mut at = start;
     let mut place: usize = 0;
     while place < used {
         let end = frame_end(buf, used, place);
         if end <= place {
-            return at;
+            return Ok(at);
         }
-        at = show_frame(out, at, name, buf, place, end);
+        at = show_frame(rt, out, at, name, buf, place, end)?;
         place = end;
     }
-    at
+    Ok(at)
 }
 
 // The lines of a state.
 pub fn show_compared(
+    rt: &impl Print,
     out: &mut [u8; 16384],
     start: usize,
     t: Table,
     queue: &[u8],
     staged: &[u8],
     sent: &[u8],
-) -> usize {
+) -> io::Result<usize> {
     let records = t.records;
-    let mut at = put(out, start, b't');
-    at = put_number(out, at, t.last as u64);
-    at = put_line(out, at);
-    at = show_records(out, at, t.used, records);
-    at = show_entries(out, at, t, queue);
-    at = show_frames(out, at, b's', t.staged_used, staged);
-    show_frames(out, at, b'o', t.sent_used, sent)
+    let mut at = put(rt, out, start, b't')?;
+    at = put_number(rt, out, at, t.last as u64)?;
+    at = put_line(rt, out, at)?;
+    at = show_records(rt, out, at, t.used, records)?;
+    at = show_entries(rt, out, at, t, queue)?;
+    at = show_frames(rt, out, at, b's', t.staged_used, staged)?;
+    show_frames(rt, out, at, b'o', t.sent_used, sent)
 }

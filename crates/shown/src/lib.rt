@@ -1,4 +1,6 @@
 // What a call answers and the state that it leaves, as lines of text on standard output. docs/REPLAY.md has the format.
+#![tactic(auto)]
+
 mod state;
 mod text;
 

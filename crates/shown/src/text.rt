@@ -1,47 +1,51 @@
 // Text on its way to standard output: it is collected in a buffer, which is written when it is full and at the end. `at` is the count of
-// bytes that are collected and not yet written, and each function answers the new count.
-use libc::STDOUT_FILENO;
+// bytes that are collected and not yet written, and each function answers the new count, or the error of a write.
+use itoa::Buffer;
+use std::io;
 
 // One byte. A full buffer is written first.
-pub fn put(out: &mut [u8; 16384], at: usize, b: u8) -> usize {
+pub fn put(rt: &impl Print, out: &mut [u8; 16384], at: usize, b: u8) -> io::Result<usize> {
     if at < 16384 {
         out[at] = b;
-        return at + 1;
+        return Ok(at + 1);
     }
-    flush(out, at);
+    flush(rt, out, at)?;
     out[0] = b;
-    1
+    Ok(1)
 }
 
 // The first n bytes, or all that there are, go out.
-fn write_first(bytes: &[u8], n: usize) {
+fn write_first(rt: &impl Print, bytes: &[u8], n: usize) -> io::Result<()> {
     if n < bytes.len() {
-        io::write_all(STDOUT_FILENO, &bytes[0..n]);
-        return;
+        return rt.write_all(&bytes[0..n]);
     }
-    io::write_all(STDOUT_FILENO, bytes);
+    rt.write_all(bytes)
 }
 
 // What is collected goes out.
-pub fn flush(out: &mut [u8; 16384], at: usize) {
-    write_first(out, at);
+pub fn flush(rt: &impl Print, out: &mut [u8; 16384], at: usize) -> io::Result<()> {
+    write_first(rt, out, at)
 }
 
 // A number in decimal, after a space.
-pub fn put_number(out: &mut [u8; 16384], at: usize, n: u64) -> usize {
-    let mut digits = [0u8; 20];
-    let count = io::decimal(n, &mut digits);
-    let next = put(out, at, b' ');
-    put_bytes(out, next, &digits[..count])
+pub fn put_number(rt: &impl Print, out: &mut [u8; 16384], at: usize, n: u64) -> io::Result<usize> {
+    let next = put(rt, out, at, b' ')?;
+    let mut digits = Buffer::new();
+    put_bytes(rt, out, next, digits.format(n).as_bytes())
 }
 
 // Bytes as they are.
-pub fn put_bytes(out: &mut [u8; 16384], start: usize, bytes: &[u8]) -> usize {
+pub fn put_bytes(
+    rt: &impl Print,
+    out: &mut [u8; 16384],
+    start: usize,
+    bytes: &[u8],
+) -> io::Result<usize> {
     let mut at = start;
     for i in 0..bytes.len() {
-        at = put(out, at, bytes[i]);
+        at = put(rt, out, at, bytes[i])?;
     }
-    at
+    Ok(at)
 }
 
 // A hexadecimal digit, in lower case.
@@ -56,16 +60,21 @@ fn hex_digit(d: u8) -> u8 {
 }
 
 // A byte in hexadecimal.
-fn put_pair(out: &mut [u8; 16384], at: usize, b: u8) -> usize {
-    let next = put(out, at, hex_digit(b / 16));
-    put(out, next, hex_digit(b % 16))
+fn put_pair(rt: &impl Print, out: &mut [u8; 16384], at: usize, b: u8) -> io::Result<usize> {
+    let next = put(rt, out, at, hex_digit(b / 16))?;
+    put(rt, out, next, hex_digit(b % 16))
 }
 
 // Bytes in hexadecimal.
-pub fn put_hex(out: &mut [u8; 16384], start: usize, bytes: &[u8]) -> usize {
+pub fn put_hex(
+    rt: &impl Print,
+    out: &mut [u8; 16384],
+    start: usize,
+    bytes: &[u8],
+) -> io::Result<usize> {
     let mut at = start;
     for i in 0..bytes.len() {
-        at = put_pair(out, at, bytes[i]);
+        at = put_pair(rt, out, at, bytes[i])?;
     }
-    at
+    Ok(at)
 }
