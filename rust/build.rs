@@ -1,5 +1,5 @@
 //! Finds the archive of the proved library, or makes it. Its folder is `OXENHUSH_LIB_DIR` (an absolute path) if that is set; else
-//! `target/staticlib` of the repository, the crate's parent folder, where `rt staticlib exports` writes it.
+//! `crates/exports/out` of the repository, the crate's parent folder, where `rt lib` in `crates/exports` writes it.
 
 use std::ffi::OsStr;
 use std::path::{Path, PathBuf};
@@ -24,6 +24,17 @@ fn ask_for_target() {
     }
 }
 
+/// The sources of the proved crates: `crates.txt`, and of each crate the folders `src`, `specs` and `proofs`. The folder `out`, in which `rt`
+/// keeps its work, is none of them. Without the list of crates there is the file alone.
+fn sources(root: &Path) -> Vec<PathBuf> {
+    let mut all = vec![root.join("crates.txt")];
+    for library in fs::read_dir(root.join("crates")).into_iter().flatten().flatten() {
+        let folders = ["src", "specs", "proofs"].map(|name| library.path().join(name));
+        all.extend(folders.into_iter().filter(|folder| folder.is_dir()));
+    }
+    all
+}
+
 /// Whether a source of the proved crates, a file or one in a folder, was changed at that time or later.
 fn changed_since(source: &Path, time: SystemTime) -> io::Result<bool> {
     if source.is_dir() {
@@ -46,25 +57,26 @@ fn is_fresh(archive: &Path, sources: &[PathBuf]) -> bool {
     }
 }
 
-/// Proves the library and everything below it, as far as that is not yet done, and writes the archive. `rt` proves the library itself anew
-/// each time, about a minute, so it is not asked where nothing changed.
+/// Proves the library and everything below it, as far as that is not yet done, and writes the archive. `rt` reads all that it kept of earlier
+/// proofs each time, so it is not asked where nothing changed.
 fn make_archive(root: &Path) -> PathBuf {
-    let folder = root.join("target").join("staticlib");
-    let sources = [root.join("crates"), root.join("crates.txt")];
+    let library = root.join("crates").join("exports");
+    let folder = library.join("out");
+    let sources = sources(root);
     for source in &sources {
         println!("cargo:rerun-if-changed={}", source.display());
     }
     if is_fresh(&folder.join("libexports.a"), &sources) {
         return folder;
     }
-    match Command::new("rt").args(["staticlib", "exports"]).current_dir(root).status() {
+    match Command::new("rt").arg("lib").current_dir(&library).status() {
         Ok(status) if status.success() => {}
-        Ok(status) => stop(&format!("`rt staticlib exports` in {} failed: {status}", root.display())),
+        Ok(status) => stop(&format!("`rt lib` in {} failed: {status}", library.display())),
         Err(error) if error.kind() == io::ErrorKind::NotFound => stop(
             "there is no `rt` to make the archive with. Install the Rattle kit (README.md), \
              or set OXENHUSH_LIB_DIR to a folder that has libexports.a.",
         ),
-        Err(error) => stop(&format!("`rt staticlib exports` could not be run: {error}")),
+        Err(error) => stop(&format!("`rt lib` could not be run: {error}")),
     }
     folder
 }
