@@ -61,7 +61,7 @@ impl State {
         }
     }
 
-    /// Reads a 93 or 94 and does what document 01 says.
+    /// Reads a 93 or 94 and does what the rules say.
     fn incoming(&mut self) -> Option<usize> {
         let (head, rest) = self.bytes.split_first_chunk::<5>()?;
         let integer = |bytes: &[u8]| Some(u32::from_be_bytes(bytes.get(..4)?.try_into().ok()?));

@@ -1,4 +1,4 @@
-//! Reads an incoming message as document 01 says. The draft reads messages in files that are not compared.
+//! Reads an incoming message as the rules say. The draft reads messages in files that are not compared.
 
 use crate::script::Reader;
 
@@ -12,7 +12,7 @@ pub enum Message {
     Close { recipient: u32 },
 }
 
-/// The message, if the payload has one of document 01's forms. Only a 91 may have more behind it.
+/// The message, if the payload has one of the rules' forms. Only a 91 may have more behind it.
 pub fn read(payload: &[u8]) -> Option<Message> {
     let mut reader = Reader { bytes: payload, at: 0 };
     let kind = reader.byte()?;

@@ -10,7 +10,7 @@ use crate::script::Call;
 use crate::session::{ChannelFlushResult, Encrypted};
 use crate::standins::{ChannelId, ChannelParams, Limits, PacketWriter, msg};
 
-/// The answer numbers of document 01 that the player foresees.
+/// The answer numbers of the rules that the player foresees.
 const UNKNOWN: u64 = 2;
 const UNCONFIRMED: u64 = 3;
 const LIMIT: u64 = 4;
@@ -94,7 +94,7 @@ impl Player {
         self.table.channels.get_mut(&ChannelId(number)).unwrap()
     }
 
-    /// Plays one call. Where the draft has no such call, its fields are set as document 01 says.
+    /// Plays one call. Where the draft has no such call, its fields are set as the rules say.
     pub fn play(&mut self, call: &Call) -> Outcome {
         match call {
             Call::NewChannel { window, limit } => {
@@ -243,7 +243,7 @@ impl Player {
         if self.too_large() { Ended } else { Inside(vec![0, 1, frames as u64, bytes as u64]) }
     }
 
-    /// Sets what document 01 says of an incoming message. A 97's CLOSE is staged by the draft.
+    /// Sets what the rules say of an incoming message. A 97's CLOSE is staged by the draft.
     fn incoming(&mut self, payload: &[u8]) -> Outcome {
         let Some(message) = read(payload) else { return Refused(vec![MALFORMED]) };
         let number = message.recipient();

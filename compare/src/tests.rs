@@ -1,4 +1,4 @@
-//! Document 01's cases, played on the draft: what the player shows is what document 01 says.
+//! The rules' cases, played on the draft: what the player shows is what the rules say.
 
 use crate::player::{
     Outcome::{self, Inside, Refused},

@@ -1,5 +1,5 @@
 #!/usr/bin/env python3
-"""A second source for what `echo` must write, on any input: document 01's echo program over the table of ../replay/model.py.
+"""A second source for what `echo` must write, on any input: the rules' echo program over the table of ../replay/model.py.
 
     model.py < INPUT > OUTPUT
 """

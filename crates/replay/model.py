@@ -1,5 +1,5 @@
 #!/usr/bin/env python3
-"""A second source for what `replay` must print: the table of document 01 and the format of docs/REPLAY.md, written from these two pages
+"""A second source for what `replay` must print: the table of the rules and the format of docs/REPLAY.md, written from these two pages
 alone and not from the Rattle code.
 
     model.py < SCRIPT > OUTPUT     what replay must print for a script

@@ -1,4 +1,4 @@
-//! The echo program of document 01: a run of frames on standard input, two channels that send back what they get, and what is sent on
+//! The echo program of the rules: a run of frames on standard input, two channels that send back what they get, and what is sent on
 //! standard output.
 //!
 //!     cargo run --example echo < ../crates/echo/stdin | od -An -tx1 -v

@@ -3,7 +3,7 @@
 use crate::ChannelId;
 use std::fmt;
 
-/// Why a call was refused: document 01's eight answers, with its numbers. They are checked in the order 1, 7, 2, 3, 8, 6, 4, 5.
+/// Why a call was refused: the rules' eight answers, with their numbers. They are checked in the order 1, 7, 2, 3, 8, 6, 4, 5.
 ///
 /// A refused call has changed nothing, a flush of all channels apart ([`Stopped`]).
 #[derive(Clone, Copy, Debug, PartialEq, Eq, PartialOrd, Ord, Hash)]
@@ -27,7 +27,7 @@ pub enum Error {
 }
 
 impl Error {
-    /// Document 01's number, 1 to 8.
+    /// The rules' number, 1 to 8.
     pub fn number(self) -> u32 {
         self as u32
     }

@@ -2,7 +2,7 @@
 //! window, what must wait queued, and the peer's messages acted on.
 //!
 //! Every call is one function of a library that is proved: its answer and every byte of its state are those of one definition, for every
-//! input ("document 01" below is the scope paper with the exact rules; the repository's README leads to both). This crate is the wrapper
+//! input ("the rules" below are docs/RULES.md of the repository). This crate is the wrapper
 //! for Rust. It has no dependencies, and `unsafe` only where it calls the library.
 //!
 //! All state is in [`Channels`]. A connection feeds each message of the peer's to [`Channels::incoming`], sends with [`Channels::data`] and

@@ -1,4 +1,4 @@
-//! Document 01's "Both sides of each edge", through the wrapper. (The case at the last number 4,294,967,295 is in `src/tests/numbers.rs`.)
+//! The rules' "Both sides of each edge", through the wrapper. (The case at the last number 4,294,967,295 is in `src/tests/numbers.rs`.)
 
 mod support;
 

@@ -1,4 +1,4 @@
-//! Document 01's echo case, played by the example program.
+//! The rules' echo case, played by the example program.
 
 #[allow(dead_code)]
 #[path = "../examples/echo.rs"]
@@ -8,7 +8,7 @@ mod support;
 use program::echo;
 use support::bytes;
 
-/// The case of document 01, frame by frame.
+/// The case of the rules, frame by frame.
 const INPUT: [&str; 4] = [
     "00000011 5b 00000002 00000007 00000005 00000003",
     "00000011 5e 00000002 00000008 6162636465666768",

@@ -1,4 +1,4 @@
-//! Each message of the peer's, read and acted on, in document 01's form.
+//! Each message of the peer's, read and acted on, in the rules' form.
 
 mod support;
 

@@ -1,4 +1,4 @@
-//! Each of document 01's refusals, with its condition, and that nothing is changed by it.
+//! Each of the rules' refusals, with its condition, and that nothing is changed by it.
 
 mod support;
 

@@ -6,7 +6,7 @@ use Rattle.channel.specs.declared.Kind.TheVariants.{Plain, Extended}
 use Rattle.channel.specs.Call as C
 use Rattle.answers.specs.declared.Numbers.{Numbers}
 
--- document 01's number; 0 is no refusal
+-- the rules' number; 0 is no refusal
 unfoldable pub refusal_in : C.Answer → ℕ
 refusal_in (C.refused k) = k
 refusal_in (C.stopped n k) = k

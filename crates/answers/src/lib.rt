@@ -21,7 +21,7 @@ pub struct Numbers {
     pub values: [u64; 7],
 }
 
-// The number of a refusal, as document 01 has it.
+// The number of a refusal, as the rules have it.
 fn refusal_number(k: Refusal) -> u32
     ensures { result ≡ refusal_number k }
 {

@@ -1,11 +1,11 @@
-// The cases of document 01 that are run and not proved: what each call answers is written out, and compared with what was worked out
+// The cases of the rules that are run and not proved: what each call answers is written out, and compared with what was worked out
 // by hand (the file `stdout`).
 #![tactic(auto)]
 
 use channel::{Acted, ChannelFlushResult, ChannelId, PeerNumber, Picked, Refusal, Sent, Table};
 use std::io;
 
-// The number of a refusal, as document 01 has it.
+// The number of a refusal, as the rules have it.
 fn refusal_number(k: Refusal) -> u64 {
     match k {
         Refusal::State => 1,

@@ -26,7 +26,7 @@ use Rattle.channel.proofs.Written.{written-sound, called-written}
 use Rattle.channel.proofs.Run.{taken_by, Seen, next, run, final, before, NoRoom, Alike, AllAlike}
 use Rattle.channel.proofs.Routes.{straight_or_staged, rekey_sends_nothing}
 
--- A SOUND STATE: what the code shows of what the document's step sees
+-- A SOUND STATE: what the code shows of what the rules' step sees
 
 shown : Seen → Shown
 shown s = record { answer = s.answer; state = written s.world; gone = s.gone }

@@ -1,4 +1,4 @@
--- What the document's state is written as means that state again.
+-- What the rules' state is written as means that state again.
 -- Assumes nothing.
 use Prim.Native.Nat.{ℕ, zero, suc, ◌+◌, ◌*◌, ◌/◌, ◌%◌, ◌≤◌, ◌<◌}
 use mathlib.Core.Path.{◌≡◌, refl, ap, ap₂, ◌∙◌}

@@ -1,4 +1,4 @@
--- Demand 3 over the document's steps: a plan adds the same bytes wherever its messages go, since they go straight only past nothing staged.
+-- Demand 3 over the rules' steps: a plan adds the same bytes wherever its messages go, since they go straight only past nothing staged.
 -- Assumes nothing.
 use Prim.Native.Nat.{ℕ}
 use mathlib.Core.Path.{◌≡◌, refl, sym, ap, ◌∙◌}

@@ -1,4 +1,4 @@
--- A run of the document's own steps, beside the run of the code's states that demand 3 speaks of.
+-- A run of the rules' own steps, beside the run of the code's states that demand 3 speaks of.
 -- Assumes nothing.
 use Prim.Native.Nat.{ℕ}
 use mathlib.Core.Path.{◌≡◌}

@@ -1,4 +1,4 @@
--- A sound state as the document's reader sees it, by each channel's own entries. What `meaning` says by itself is not repeated: that the
+-- A sound state as the rules' reader sees it, by each channel's own entries. What `meaning` says by itself is not repeated: that the
 -- entries' lengths sum to the queue's used count, that staged is whole frames, and that unused places and entries are zero.
 -- Assumes nothing.
 use Rattle.channel.specs.declared.Record.{Record}

@@ -1,4 +1,4 @@
--- What a sound state is written as is sound, and a call on it is the document's step.
+-- What a sound state is written as is sound, and a call on it is the rules' step.
 -- Assumes nothing.
 use Prim.Native.Nat.{ℕ, zero, suc, ◌+◌, ◌-◌, ◌*◌, ◌/◌, ◌%◌, ◌≤◌, ◌<◌}
 use mathlib.Core.Path.{◌≡◌, refl, sym, ap, ◌∙◌}
@@ -141,7 +141,7 @@ written-sound w s = by_clauses (written w) (unfold written in
       whole = ap (whole_frames (length (frames w.staged))) (take-append_seam (frames w.staged) w.staged_rest) ∙ whole-written w.staged (length (frames w.staged)) s.whole (omega (arith, s.staged_size));
     })
 
--- THE THEOREM: a call on it is the document's step
+-- THE THEOREM: a call on it is the rules' step
 pub called-written : (w : World) (c : Call) → Sound w → called (written w) c ≡ record { answer = (step w c).answer; state = written (step w c).world }
 unfolding called when_sound
 called-written w c s = rw (written-sound w s, meaning-written w s)

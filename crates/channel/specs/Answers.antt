@@ -1,4 +1,4 @@
--- Document 01's number and values for each case of the enums that the calls answer.
+-- The rules' number and values for each case of the enums that the calls answer.
 -- Assumes nothing.
 use Rattle.std.specs.Prelude.{ℕ}
 use Rattle.channel.specs.declared.Refusal.{Refusal}
@@ -20,7 +20,7 @@ use Rattle.channel.specs.declared.PendingData.{PendingData}
 use Rattle.channel.specs.declared.PendingData.TheVariants as Pending
 use Rattle.channel.specs.Call as C
 
--- document 01, "Answer numbers"
+-- docs/RULES.md, "Answer numbers"
 unfoldable pub refusal_number : Refusal → ℕ
 refusal_number Refusal.State = 1
 refusal_number Refusal.Unknown = 2

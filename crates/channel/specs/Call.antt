@@ -76,7 +76,7 @@ pub data Result : Type 0 where
   pending_is : Bool → Result
 
 pub data Answer : Type 0 where
-  -- with document 01's number
+  -- with the rules' number
   refused : ℕ → Answer
   -- a flush of all: the channel, and its refusal
   stopped : ℕ → ℕ → Answer

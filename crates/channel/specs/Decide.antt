@@ -1,5 +1,5 @@
 -- What each call does to the table, and the messages that it puts out: all that does not depend on the room in a lent buffer
--- nor on the buffer that a message goes to. Document 01, "Parts"; the checks run in the order 7, 2, 3, 8, 6, 4.
+-- nor on the buffer that a message goes to. docs/RULES.md, "The calls"; the checks run in the order 7, 2, 3, 8, 6, 4.
 -- Assumes nothing.
 use Rattle.channel.specs.declared.Record.{Record}
 use Rattle.channel.specs.declared.Kind.{Kind}
@@ -23,7 +23,7 @@ pub record Plan : Type 0 where
   pub control : List (List ℕ)
   pub queues : Queues
 
--- a refusal with document 01's number, or a plan
+-- a refusal with the rules' number, or a plan
 pub data Decision : Type 0 where
   refuse : ℕ → Decision
   go : Plan → Decision

@@ -1,4 +1,4 @@
--- Document 01, "Both sides of each edge" and "Errors that read well": worked cases, each with all that is seen after its calls.
+-- docs/RULES.md, "Both sides of each edge" and "Errors that read well": worked cases, each with all that is seen after its calls.
 -- The expected bytes are worked out by hand from RFC 4254.
 -- Assumes nothing.
 use Rattle.channel.specs.declared.Kind.TheVariants.{Extended, Plain}

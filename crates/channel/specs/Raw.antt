@@ -1,4 +1,4 @@
--- The state as the code holds it, what it means, and how the document's state is written in it.
+-- The state as the code holds it, what it means, and how the rules' state is written in it.
 -- Assumes nothing.
 use Rattle.std.specs.Prelude.{ℕ, zero, suc, ◌+◌, ◌-◌, ◌*◌, ◌/◌, ◌%◌, false, cond, List, [], ◌∷◌, ◌++◌, length, take, drop, replicate, eqb}
 use Rattle.channel.specs.declared.Record.{Record}
@@ -14,7 +14,7 @@ pub record Raw : Type 0 where
   pub staged : List ℕ
   pub sent : List ℕ
 
--- FROM THE CODE'S STATE TO THE DOCUMENT'S
+-- FROM THE CODE'S STATE TO THE RULES'
 
 -- bit i of the word says whether place i is used
 unfoldable pub places_of : ℕ → List Record → List Place

@@ -1,4 +1,4 @@
--- What an incoming payload reads as: the forms of document 01, "Incoming" (RFC 4254 sections 5.1 to 5.3).
+-- What an incoming payload reads as: the forms of docs/RULES.md, "Incoming" (RFC 4254 sections 5.1 to 5.3).
 -- Assumes nothing.
 use Rattle.channel.specs.declared.Kind.TheVariants.{Extended, Plain}
 use Rattle.std.specs.Prelude.{ℕ, ◌+◌, Bool, true, false, ◌&&◌, List, length, drop, get_or, leb, eqb}

@@ -1,4 +1,4 @@
--- When a state is sound: document 01's list, clause by clause.
+-- When a state is sound: the rules' list, clause by clause.
 -- Assumes nothing.
 use Rattle.std.specs.Prelude.{ℕ, zero, suc, ◌+◌, ◌/◌, ◌%◌, Bool, true, false, ◌&&◌, ◌||◌, not, List, [], ◌∷◌, length, take, drop, leb, ltb, eqb}
 use Rattle.channel.specs.declared.Record.{Record}

@@ -1,4 +1,4 @@
--- The state of document 01 as its reader sees it: 32 places, the last number, the pending entries, each with its own bytes, and
+-- The state of the rules as its reader sees it: 32 places, the last number, the pending entries, each with its own bytes, and
 -- the three lent buffers. The queue's used part is the entries' bytes in order, and staged's used part a run of frames.
 -- Assumes nothing.
 use Rattle.channel.specs.declared.Record.{Record}

@@ -1,4 +1,4 @@
--- The bytes on the wire: RFC 4251 section 5 (integers and strings), RFC 4254 section 5 (messages), document 01 (frames).
+-- The bytes on the wire: RFC 4251 section 5 (integers and strings), RFC 4254 section 5 (messages), docs/RULES.md (frames).
 -- Assumes nothing.
 use Rattle.channel.specs.declared.Kind.{Kind}
 use Rattle.channel.specs.declared.Kind.TheVariants.{Extended, Plain}

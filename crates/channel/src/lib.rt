@@ -122,7 +122,7 @@ pub enum Message {
     Close(ChannelId),
 }
 
-// Why a call is refused: document 01's answers 1 to 8, in their order.
+// Why a call is refused: the rules' answers 1 to 8, in their order.
 #[derive(Clone, Copy)]
 pub enum Refusal {
     State,

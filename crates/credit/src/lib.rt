@@ -1,4 +1,4 @@
-// A 93 credit (document 01, Incoming): it alters one record's peer window and no other field.
+// A 93 credit (docs/RULES.md, Incoming): it alters one record's peer window and no other field.
 #![tactic(auto)]
 
 ghost use Rattle.std.specs.Prelude.{◌≡◌, ◌+◌};

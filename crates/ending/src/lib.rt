@@ -1,4 +1,4 @@
-// EOF and CLOSE (document 01): with an entry a mark, otherwise the message is staged, and a CLOSE removes the record.
+// EOF and CLOSE (docs/RULES.md): with an entry a mark, otherwise the message is staged, and a CLOSE removes the record.
 #![tactic(auto)]
 
 ghost use Rattle.std.specs.Prelude.{◌≡◌, true, ◌+◌, ◌≤◌, ◌<◌, length};

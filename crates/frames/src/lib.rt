@@ -1,4 +1,4 @@
-// Messages in frames (document 01, Framing): data cut into packets and written into a lent buffer, and the walk over staged.
+// Messages in frames (docs/RULES.md, Framing): data cut into packets and written into a lent buffer, and the walk over staged.
 // What is written is channel's `frame` of the message, or its `frames` of the packets.
 
 #![tactic(auto)]

@@ -1,4 +1,4 @@
-// Incoming messages: what reading one payload does to the table (document 01, Incoming).
+// Incoming messages: what reading one payload does to the table (docs/RULES.md, Incoming).
 #![tactic(auto)]
 
 ghost use Rattle.std.specs.Prelude.{◌≡◌, true, cond, ◌<◌};

@@ -1,4 +1,4 @@
--- From the document's lists to the code's arrays: places, entries and bytes after a change, as the code stores them.
+-- From the rules' lists to the code's arrays: places, entries and bytes after a change, as the code stores them.
 -- Assumes nothing.
 use Prim.Native.Nat.{ℕ, zero, suc, ◌+◌, ◌-◌, ◌*◌, ◌^◌, ◌≤◌, ◌<◌}
 use mathlib.Core.Path.{◌≡◌, refl, sym, ap, ap₂, ◌∙◌}

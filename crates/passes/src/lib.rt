@@ -1,4 +1,4 @@
-// The passes over the pending entries (document 01): what of a channel's queued bytes leaves, as far as a window goes. Three of them:
+// The passes over the pending entries (docs/RULES.md): what of a channel's queued bytes leaves, as far as a window goes. Three of them:
 // the sizes, the frames (the queue is only read), and the compaction (no destination), so that each byte is copied once.
 
 #![tactic(auto)]

@@ -226,7 +226,7 @@ no_refusal : (x : Result) → is_refusal (gave x) ≡ false
 unfolding P.is_refusal
 no_refusal x = refl
 
--- a call's outcome is the step of the document's state
+-- a call's outcome is the step of the rules' state
 module _ (r : Raw) (ty : Typed r) (sd : is_sound r ≡ true) (k : Call) (o : Outcome) (e : o ≡ called r k) where
   stepped_to : o ≡ record { answer = (step (meaning r) k).answer; state = written (step (meaning r) k).world }
   stepped_to = e ∙ sound-step r k sd

@@ -1,4 +1,4 @@
-// Pending flush (document 01): what a channel queued is framed as far as the peer's window goes, by the passes of `passes`; then the
+// Pending flush (docs/RULES.md): what a channel queued is framed as far as the peer's window goes, by the passes of `passes`; then the
 // marks' messages, the record and the answer.
 
 #![tactic(auto)]

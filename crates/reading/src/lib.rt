@@ -1,4 +1,4 @@
-// Reading one incoming payload: which message it is, with its fields (document 01, Incoming).
+// Reading one incoming payload: which message it is, with its fields (docs/RULES.md, Incoming).
 #![tactic(auto)]
 
 ghost use Rattle.std.specs.Prelude.{◌≡◌, ℕ, ◌≤◌};

@@ -1,4 +1,4 @@
-// Data, plain and extended (document 01). The four calls share one decision and one carry-out; the straight form and the staged
+// Data, plain and extended (docs/RULES.md). The four calls share one decision and one carry-out; the straight form and the staged
 // form differ in the buffer that is lent to the carry-out.
 
 #![tactic(auto)]

@@ -1,4 +1,4 @@
-// Staged flush (document 01): whole frames move from the front of staged to sent; and drain, after which sent is empty.
+// Staged flush (docs/RULES.md): whole frames move from the front of staged to sent; and drain, after which sent is empty.
 
 #![tactic(auto)]
 

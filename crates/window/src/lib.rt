@@ -1,4 +1,4 @@
-// The receive window and the two queries (document 01).
+// The receive window and the two queries (docs/RULES.md).
 #![tactic(auto)]
 
 ghost use Rattle.std.specs.Prelude.{◌≡◌, ◌≤◌};

@@ -108,7 +108,7 @@ const CALLS: [(&str, &[u32], Call); 19] = [
     }),
 ];
 
-/// What document 01 says of every call, whatever the state.
+/// What the rules say of every call, whatever the state.
 fn hold(name: &str, counts: &[u32], before: &State, after: &State, answer: &Numbers) {
     let of_all = name.starts_with("flush_all");
     let sound = before.is_sound();

@@ -1,4 +1,4 @@
-//! Document 01's cases that need a table which no call makes.
+//! The rules' cases that need a table which no call makes.
 
 use crate::ffi::{self, Entry, Record, Table};
 

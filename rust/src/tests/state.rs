@@ -1,4 +1,4 @@
-//! A state of the library, whole: what document 01 calls sound, and states drawn at random.
+//! A state of the library, whole: what the rules call sound, and states drawn at random.
 
 use super::random::Random;
 use crate::ffi::{table_new, Entry, Record, StoredKind, Table};
@@ -25,7 +25,7 @@ impl State {
         &self.table.entries[..self.table.entry_count.min(64)]
     }
 
-    /// Document 01's paragraph "A state is sound when", clause by clause.
+    /// The rules' paragraph "A state is sound when", clause by clause.
     pub fn is_sound(&self) -> bool {
         self.counts_are_sound() && self.rest_is_zero() && self.channels_are_sound() && self.whole_frames()
     }

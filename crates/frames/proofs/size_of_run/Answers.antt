@@ -1,4 +1,4 @@
--- The count is document 01's, and length_run says that it is what channel's packets take.
+-- The count is the rules', and length_run says that it is what channel's packets take.
 use mathlib.Core.Path.{sym, ap, ◌∙◌}
 use native.Mathlib.Omega.{arith}
 use Rattle.frames.proofs.Packets.{ceil_div, run_size, heads_le, length_run}
