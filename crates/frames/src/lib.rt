@@ -174,8 +174,8 @@ pub fn frame_at(staged: &[u8], used: usize, at: usize) -> usize
 // The longest front run of staged's frames that fits the room.
 pub fn front_run(staged: &[u8], used: usize, room: usize) -> Front
     requires { (used ≤ length staged.now) × (whole_frames used (take used staged.now) ≡ true) }
-    ensures frames_value { (result.frames ≡ fitting room (messages_of used (take used staged.now))) × (result.bytes ≡ length (frames (take result.frames (messages_of used (take used staged.now))))) }
-    ensures bytes_le_used { (result.bytes ≤ used) × (result.bytes ≤ room) }
+    ensures fitting_run { (result.frames ≡ fitting room (messages_of used (take used staged.now))) × (result.bytes ≡ length (frames (take result.frames (messages_of used (take used staged.now))))) }
+    ensures bounds { (result.bytes ≤ used) × (result.bytes ≤ room) }
 {
     let mut at = 0;
     let mut count = 0;

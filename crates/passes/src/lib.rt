@@ -200,7 +200,7 @@ fn frame_pending(
     c: Record,
 ) -> usize
     requires base { Base entries count queue.now (sum_left count entries) }
-    requires dst_len_bound { (length dst.old ≤ most_bytes) × (0 < c.recipient_maximum_packet_size) × (start + length (frames (flushed c c.recipient_window_size (entries_of count entries queue.now)).out) ≤ length dst.old) }
+    requires room { (length dst.old ≤ most_bytes) × (0 < c.recipient_maximum_packet_size) × (start + length (frames (flushed c c.recipient_window_size (entries_of count entries queue.now)).out) ≤ length dst.old) }
     ensures dst_after { dst.new ≡ write start (frames (flushed c c.recipient_window_size (entries_of count entries queue.now)).out) dst.old }
     ensures value { result ≡ start + length (frames (flushed c c.recipient_window_size (entries_of count entries queue.now)).out) }
 {
@@ -340,7 +340,7 @@ pub fn plan(t: Table, c: Record, queue: &[u8]) -> Planned
 // The channel's frames into `dst`. The limit matters where a byte is pending, and is not 0 there.
 pub fn frame_entries(t: Table, queue: &[u8], dst: &mut [u8], start: usize, c: Record)
     requires base { Base t.entries t.entry_count queue.now t.queue_used }
-    requires dst_len_bound { (length dst.old ≤ most_bytes) × (stuck_by c (take t.entry_count t.entries) ≡ false) × (start + length (frames (flushed_in t queue.now c).out) ≤ length dst.old) }
+    requires room { (length dst.old ≤ most_bytes) × (stuck_by c (take t.entry_count t.entries) ≡ false) × (start + length (frames (flushed_in t queue.now c).out) ≤ length dst.old) }
     ensures { dst.new ≡ write start (frames (flushed_in t queue.now c).out) dst.old }
 {
     let es = t.entries;

@@ -207,7 +207,7 @@ fn answer(c: Record, s: Size) -> ChannelFlushResult
 // The flush into staged: the frames, then the marks' messages.
 fn stage_flush(t: Table, queue: &mut [u8], staged: &mut [u8], i: usize, c: Record, s: Size) -> Left
     requires ready { Ready t queue.old i c s }
-    requires staged_len_bound { (length staged.old ≤ most_bytes) × (t.staged_used + (s.size + length (frames (control_of c s.all))) ≤ length staged.old) }
+    requires staged_room { (length staged.old ≤ most_bytes) × (t.staged_used + (s.size + length (frames (control_of c s.all))) ≤ length staged.old) }
     ensures staged { Staged t queue.old staged.old i c (filled_by t result) queue.new staged.new }
     ensures at_lt_place_count { result.at < place_count }
 {
@@ -237,8 +237,8 @@ fn send_flush(
     found: Size,
 ) -> Left
     requires ready { Ready t queue.old i c found }
-    requires staged_len_bound { (length staged.old ≤ most_bytes) × (t.staged_used + length (frames (control_of c found.all)) ≤ length staged.old) }
-    requires sent_len_bound { (length sent.old ≤ most_bytes) × (t.sent_used + found.size ≤ length sent.old) }
+    requires staged_room { (length staged.old ≤ most_bytes) × (t.staged_used + length (frames (control_of c found.all)) ≤ length staged.old) }
+    requires sent_room { (length sent.old ≤ most_bytes) × (t.sent_used + found.size ≤ length sent.old) }
     ensures straight { Straight t queue.old staged.old sent.old i c (filled_by t result) queue.new staged.new sent.new }
     ensures at_lt_place_count { result.at < place_count }
 {
@@ -320,9 +320,9 @@ fn stage_at(
     sent: &[u8],
     number: ChannelId,
 ) -> Done
-    requires sent_value { (is_sound (lent t queue.old staged.old sent.now) ≡ true) × Typed (lent t queue.old staged.old sent.now) }
+    requires sound { (is_sound (lent t queue.old staged.old sent.now) ≡ true) × Typed (lent t queue.old staged.old sent.now) }
     requires held_at { HeldAt t number.0 i × (c ≡ record_at t i) }
-    ensures sent_after { (route : Route) → goes_straight (direct route) (R.meaning (lent t queue.old staged.old sent.now)) ≡ false → outcome (Ans.flushed result.answer) (filled_by t result.left) queue.new staged.new sent.now ≡ called (lent t queue.old staged.old sent.now) (put route (flush number.0)) }
+    ensures as_called { (route : Route) → goes_straight (direct route) (R.meaning (lent t queue.old staged.old sent.now)) ≡ false → outcome (Ans.flushed result.answer) (filled_by t result.left) queue.new staged.new sent.now ≡ called (lent t queue.old staged.old sent.now) (put route (flush number.0)) }
     ensures at_lt_place_count { result.left.at < place_count }
 {
     let Planned::Frames(s) = plan(t, c, queue) else {
@@ -349,9 +349,9 @@ fn send_at(
     sent: &mut [u8],
     number: ChannelId,
 ) -> Done
-    requires sent_value { (is_sound (lent t queue.old staged.old sent.old) ≡ true) × Typed (lent t queue.old staged.old sent.old) }
+    requires sound { (is_sound (lent t queue.old staged.old sent.old) ≡ true) × Typed (lent t queue.old staged.old sent.old) }
     requires held_at { HeldAt t number.0 i × (c ≡ record_at t i) }
-    ensures sent_after { (route : Route) → goes_straight (direct route) (R.meaning (lent t queue.old staged.old sent.old)) ≡ true → outcome (Ans.flushed result.answer) (filled_by t result.left) queue.new staged.new sent.new ≡ called (lent t queue.old staged.old sent.old) (put route (flush number.0)) }
+    ensures as_called { (route : Route) → goes_straight (direct route) (R.meaning (lent t queue.old staged.old sent.old)) ≡ true → outcome (Ans.flushed result.answer) (filled_by t result.left) queue.new staged.new sent.new ≡ called (lent t queue.old staged.old sent.old) (put route (flush number.0)) }
     ensures at_lt_place_count { result.left.at < place_count }
 {
     let Planned::Frames(s) = plan(t, c, queue) else {
@@ -382,7 +382,7 @@ fn flush_staged(
     number: ChannelId,
 ) -> Done
     requires { Known (lent t queue.old staged.old sent.now) number.0 seen }
-    ensures sent_after { (route : Route) → (is_sound (lent t queue.old staged.old sent.now) ≡ true → goes_straight (direct route) (R.meaning (lent t queue.old staged.old sent.now)) ≡ false) → outcome (Ans.flushed result.answer) (filled_by t result.left) queue.new staged.new sent.now ≡ called (lent t queue.old staged.old sent.now) (put route (flush number.0)) }
+    ensures as_called { (route : Route) → (is_sound (lent t queue.old staged.old sent.now) ≡ true → goes_straight (direct route) (R.meaning (lent t queue.old staged.old sent.now)) ≡ false) → outcome (Ans.flushed result.answer) (filled_by t result.left) queue.new staged.new sent.now ≡ called (lent t queue.old staged.old sent.now) (put route (flush number.0)) }
     ensures at_lt_place_count { result.left.at < place_count }
 {
     typed(t, queue, staged, sent);
@@ -409,7 +409,7 @@ fn flush_straight(
     number: ChannelId,
 ) -> Done
     requires { Known (lent t queue.old staged.old sent.old) number.0 seen }
-    ensures sent_after { (route : Route) → (is_sound (lent t queue.old staged.old sent.old) ≡ true → goes_straight (direct route) (R.meaning (lent t queue.old staged.old sent.old)) ≡ true) → outcome (Ans.flushed result.answer) (filled_by t result.left) queue.new staged.new sent.new ≡ called (lent t queue.old staged.old sent.old) (put route (flush number.0)) }
+    ensures as_called { (route : Route) → (is_sound (lent t queue.old staged.old sent.old) ≡ true → goes_straight (direct route) (R.meaning (lent t queue.old staged.old sent.old)) ≡ true) → outcome (Ans.flushed result.answer) (filled_by t result.left) queue.new staged.new sent.new ≡ called (lent t queue.old staged.old sent.old) (put route (flush number.0)) }
     ensures at_lt_place_count { result.left.at < place_count }
 {
     typed(t, queue, staged, sent);
@@ -555,7 +555,7 @@ fn flush_routed(
     rekey: bool,
 ) -> Done
     requires { Known (lent t queue.old staged.old sent.old) number.0 seen }
-    ensures sent_after { outcome (Ans.flushed result.answer) (filled_by t result.left) queue.new staged.new sent.new ≡ called (lent t queue.old staged.old sent.old) (put (record { form = Call.straight; rekey = rekey }) (flush number.0)) }
+    ensures as_called { outcome (Ans.flushed result.answer) (filled_by t result.left) queue.new staged.new sent.new ≡ called (lent t queue.old staged.old sent.old) (put (record { form = Call.straight; rekey = rekey }) (flush number.0)) }
     ensures at_lt_place_count { result.left.at < place_count }
 {
     if straight(t, rekey) {

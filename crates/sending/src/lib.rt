@@ -232,7 +232,7 @@ fn frame(
     kind: Kind,
     buf: &[u8],
 ) -> Done
-    requires i_lt_place_count { (i < place_count) × (r ≡ record_at t i) × (length queue.old ≤ most_bytes) × (length out.old ≤ most_bytes) }
+    requires place { (i < place_count) × (r ≡ record_at t i) × (length queue.old ≤ most_bytes) × (length out.old ≤ most_bytes) }
     requires frames { Frames straight t r kind m buf.now (length queue.old) (length out.old) }
     ensures { Carries (P.Frame m) straight t i number.0 kind buf.now queue.old out.old result queue.new out.new }
 {
@@ -357,7 +357,7 @@ fn send_routed(
 ) -> Done
     requires { Sees t queue.old staged.old sent.old number.0 seen }
     ensures fits { Fits result.change }
-    ensures sent_after { outcome (Answers.sent result.answer) (applied t result.change) queue.new staged.new sent.new
+    ensures as_called { outcome (Answers.sent result.answer) (applied t result.change) queue.new staged.new sent.new
         ≡ called (lent t queue.old staged.old sent.old) (C.put (record { form = C.straight; rekey = rekey }) (C.send kind number.0 buf.now)) }
 {
     if t.staged_used == 0 {

@@ -207,7 +207,7 @@ fn unnamed() -> Entries
 // place that has the number is the only one.
 fn entries_named(t: Table, hints: [u8; 64], n: ChannelId) -> Entries
     requires sized { Sized t }
-    requires t_value { distinct (places_in t) ≡ true }
+    requires places_distinct { distinct (places_in t) ≡ true }
     ensures { EntriesTold t n.0 result.sound result.waits }
 {
     let used = t.used;
@@ -244,7 +244,7 @@ fn entries_named(t: Table, hints: [u8; 64], n: ChannelId) -> Entries
 // The same, with nothing to look at where there is no entry.
 fn entries_sound(t: Table, hints: [u8; 64], n: ChannelId) -> Entries
     requires sized { Sized t }
-    requires t_value { distinct (places_in t) ≡ true }
+    requires places_distinct { distinct (places_in t) ≡ true }
     ensures { EntriesTold t n.0 result.sound result.waits }
 {
     if t.entry_count == 0 {
@@ -283,7 +283,7 @@ fn marks_named(t: Table) -> bool
 // The same, with nothing to look at where no used place has a mark.
 fn marks_sound(t: Table, marked: bool) -> bool
     requires sized { Sized t }
-    requires t_value { marked ≡ false → marks_sound t ≡ true }
+    requires unmarked { marked ≡ false → marks_sound t ≡ true }
     ensures { result ≡ marks_sound t }
 {
     if marked {

@@ -18,7 +18,7 @@ pub returns-then-room-at : goal.returns-then-room-at
 returns-then-room-at c = let p = c.loop-at in
     let a = c.args in
     let l = length-take-le a.used a.staged.now (omega arith) in
-    record { frames_value = left_stop p.invariant.3 (omega arith) (omega arith) (omega arith); bytes_le_used = omega arith }
+    record { fitting_run = left_stop p.invariant.3 (omega arith) (omega arith) (omega arith); bounds = omega arith }
 
 pub loop-at-smaller : goal.loop-at-smaller
 loop-at-smaller c = omega (arith, some (goal.at.loop-at-smaller c).After-frame_at-n)
@@ -34,4 +34,4 @@ pub returns : goal.returns
 returns c = let p = c.loop-at in
     let a = c.args in
     let l = length-take-le a.used a.staged.now (omega arith) in
-    record { frames_value = left_end p.invariant.3 (omega arith); bytes_le_used = omega arith }
+    record { fitting_run = left_end p.invariant.3 (omega arith); bounds = omega arith }

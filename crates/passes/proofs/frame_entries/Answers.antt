@@ -12,13 +12,13 @@ pub frame_pending-requires : goal.frame_pending-requires
 frame_pending-requires c =
     let a = c.args in
     let b = c.requires.base in
-    let p = c.requires.dst_len_bound in
+    let p = c.requires.room in
     let d = c.positive-d in
-    let e = framed_by a.c a.t a.queue.now b p.1 d.result d.ensures in record { base = record { places = b.places; few = b.few; fits = omega (arith, b.total, b.fits); total = refl }; dst_len_bound = (p.0, rw d.ensures (positive_limit _), omega (arith, ap (λ (f : Flushed). length (frames f.out)) e, p.2)) }
+    let e = framed_by a.c a.t a.queue.now b p.1 d.result d.ensures in record { base = record { places = b.places; few = b.few; fits = omega (arith, b.total, b.fits); total = refl }; room = (p.0, rw d.ensures (positive_limit _), omega (arith, ap (λ (f : Flushed). length (frames f.out)) e, p.2)) }
 
 pub returns : goal.returns
 returns c =
     let a = c.args in
     let d = c.positive-d in
-    let e = framed_by a.c a.t a.queue.now c.requires.base c.requires.dst_len_bound.1 d.result d.ensures in
+    let e = framed_by a.c a.t a.queue.now c.requires.base c.requires.room.1 d.result d.ensures in
     c.frame_pending.ensures.dst_after ∙ ap (λ (x : Flushed). write a.start (frames x.out) a.dst.now) e

@@ -13,4 +13,4 @@ flush_staged-done-requires c =
 pub returns : goal.returns
 returns c =
     let r : Raw = lent c.args.t c.args.queue.now c.args.staged.now c.args.sent.now in
-    finished c.finish.ensures (c.flush_staged-done.ensures.sent_after _ (λ sd. staged-way r sd false))
+    finished c.finish.ensures (c.flush_staged-done.ensures.as_called _ (λ sd. staged-way r sd false))

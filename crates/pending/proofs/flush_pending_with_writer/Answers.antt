@@ -13,7 +13,7 @@ flush_straight-done-requires c =
 pub returns-then-straight : goal.returns-then-straight
 returns-then-straight c =
     let r : Raw = lent c.args.t c.args.queue.now c.args.staged.now c.args.sent.now in
-    finished c.finish.ensures (c.flush_straight-done.ensures.sent_after _ (λ sd. writer_way r sd c.args.rekey ∙ sym c.straight.ensures ∙ c.if-straight.true))
+    finished c.finish.ensures (c.flush_straight-done.ensures.as_called _ (λ sd. writer_way r sd c.args.rekey ∙ sym c.straight.ensures ∙ c.if-straight.true))
 
 pub flush_staged-done-requires : goal.flush_staged-done-requires
 flush_staged-done-requires c =
@@ -23,4 +23,4 @@ flush_staged-done-requires c =
 pub returns : goal.returns
 returns c =
     let r : Raw = lent c.args.t c.args.queue.now c.args.staged.now c.args.sent.now in
-    finished c.finish-2.ensures (c.flush_staged-done.ensures.sent_after _ (λ sd. writer_way r sd c.args.rekey ∙ sym c.straight.ensures ∙ c.if-straight.false))
+    finished c.finish-2.ensures (c.flush_staged-done.ensures.as_called _ (λ sd. writer_way r sd c.args.rekey ∙ sym c.straight.ensures ∙ c.if-straight.false))

@@ -10,7 +10,7 @@ returns-then-straight c =
     let r : Raw = lent c.args.t c.args.queue.now c.args.staged.now c.args.sent.now in
     let e = c.flush_straight.ensures in
     record {
-      sent_after = e.sent_after _ (λ sd. writer_way r sd c.args.rekey ∙ sym c.straight.ensures ∙ c.if-straight.true);
+      as_called = e.as_called _ (λ sd. writer_way r sd c.args.rekey ∙ sym c.straight.ensures ∙ c.if-straight.true);
       at_lt_place_count = e.at_lt_place_count;
     }
 
@@ -19,6 +19,6 @@ returns-else-straight c =
     let r : Raw = lent c.args.t c.args.queue.now c.args.staged.now c.args.sent.now in
     let e = c.flush_staged.ensures in
     record {
-      sent_after = e.sent_after _ (λ sd. writer_way r sd c.args.rekey ∙ sym c.straight.ensures ∙ c.if-straight.false);
+      as_called = e.as_called _ (λ sd. writer_way r sd c.args.rekey ∙ sym c.straight.ensures ∙ c.if-straight.false);
       at_lt_place_count = e.at_lt_place_count;
     }

@@ -13,7 +13,7 @@ pub stage_at-requires : goal.stage_at-requires
 unfolding Known
 stage_at-requires c =
     let h = rw c.in-At.is at c.requires in
-    record { sent_value = (h.0, c.typed.ensures); held_at = (h.1, h.2) }
+    record { sound = (h.0, c.typed.ensures); held_at = (h.1, h.2) }
 
 pub returns-in-Unsound : goal.returns-in-Unsound
 unfolding Known A.refusal A.refusal_number
@@ -21,7 +21,7 @@ returns-in-Unsound c =
     let r : Raw = lent c.args.t c.args.queue.now c.args.staged.now c.args.sent.now in
     let h = rw c.in-Unsound.is at c.requires in
     record {
-      sent_after = λ route w. refusal_is r c.refused.ensures.0 c.refused.ensures.1 ∙ sym (unsound r _ h);
+      as_called = λ route w. refusal_is r c.refused.ensures.0 c.refused.ensures.1 ∙ sym (unsound r _ h);
       at_lt_place_count = c.refused.ensures.2;
     }
 
@@ -31,7 +31,7 @@ returns-in-Unknown c =
     let r : Raw = lent c.args.t c.args.queue.now c.args.staged.now c.args.sent.now in
     let h = rw c.in-Unknown.is at c.requires in
     record {
-      sent_after = λ route w. refusal_is r c.refused-in-Unknown.ensures.0 c.refused-in-Unknown.ensures.1 ∙ sym (unknown_is r c.typed.ensures h.0 route _ h.1);
+      as_called = λ route w. refusal_is r c.refused-in-Unknown.ensures.0 c.refused-in-Unknown.ensures.1 ∙ sym (unknown_is r c.typed.ensures h.0 route _ h.1);
       at_lt_place_count = c.refused-in-Unknown.ensures.2;
     }
 
@@ -41,7 +41,7 @@ returns-then-waits c =
     let e = c.stage_at.ensures in
     let h = rw c.in-At.is at c.requires in
     record {
-      sent_after = λ route w. e.sent_after route (w h.0);
+      as_called = λ route w. e.as_called route (w h.0);
       at_lt_place_count = e.at_lt_place_count;
     }
 
@@ -51,6 +51,6 @@ returns-else-waits c =
     let r : Raw = lent c.args.t c.args.queue.now c.args.staged.now c.args.sent.now in
     let h = rw c.in-At.is at c.requires in
     record {
-      sent_after = λ route w. refusal_is r c.idle.ensures.0 c.idle.ensures.1 ∙ idle_is r c.typed.ensures h.0 route _ _ h.1 (h.3 c.if-waits.false);
+      as_called = λ route w. refusal_is r c.idle.ensures.0 c.idle.ensures.1 ∙ idle_is r c.typed.ensures h.0 route _ _ h.1 (h.3 c.if-waits.false);
       at_lt_place_count = c.idle.ensures.2;
     }

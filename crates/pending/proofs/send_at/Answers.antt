@@ -14,17 +14,17 @@ use Rattle.pending.proofs.send_at.Goals as goal
 pub plan-requires : goal.plan-requires
 plan-requires c =
     let r : Raw = lent c.args.t c.args.queue.now c.args.staged.now c.args.sent.now in
-    let l = limits r c.requires.sent_value.0 in
-    record { base = base_of r c.requires.sent_value.1 c.requires.sent_value.0; queue_used_bound = omega (arith, l.queue_used, l.queue_long) }
+    let l = limits r c.requires.sound.0 in
+    record { base = base_of r c.requires.sound.1 c.requires.sound.0; queue_used_bound = omega (arith, l.queue_used, l.queue_long) }
 
 pub returns-in_default : goal.returns-in_default
 unfolding Pass.PlannedBy A.refusal A.refusal_number
 returns-in_default c =
     let r : Raw = lent c.args.t c.args.queue.now c.args.staged.now c.args.sent.now in
-    let s = c.requires.sent_value in
+    let s = c.requires.sound in
     let h = c.requires.held_at in
     record {
-      sent_after = λ route w.
+      as_called = λ route w.
           refusal_is r c.refused.ensures.0 c.refused.ensures.1
           ∙ sym (limit_is r s.1 s.0 route c.args.number.0 c.args.i h.0 c.args.c h.1 c.in_default.ensures);
       at_lt_place_count = c.refused.ensures.2;
@@ -33,17 +33,17 @@ returns-in_default c =
 pub overflow_sub-room : goal.overflow_sub-room
 overflow_sub-room c =
     let r : Raw = lent c.args.t c.args.queue.now c.args.staged.now c.args.sent.now in
-    omega (arith, (limits r c.requires.sent_value.0).sent_used)
+    omega (arith, (limits r c.requires.sound.0).sent_used)
 
 pub returns-then-room-s : goal.returns-then-room-s
 unfolding A.refusal A.refusal_number
 returns-then-room-s c =
     let r : Raw = lent c.args.t c.args.queue.now c.args.staged.now c.args.sent.now in
-    let s = c.requires.sent_value in
+    let s = c.requires.sound in
     let h = c.requires.held_at in
     let p = c.in-Frames.ensures in
     record {
-      sent_after = λ route w.
+      as_called = λ route w.
           refusal_is r c.refused-then-room-s.ensures.0 c.refused-then-room-s.ensures.1
           ∙ sym (sent-full r s.1 s.0 route c.args.number.0 c.args.i h.0 c.args.c h.1 w (planned_free r c.args.c _ p) (omega (arith, (limits r s.0).sent_used, c.if-room-s.true, size_is c.args.t c.args.queue.now c.args.i c.args.c _ (planned_sizes r c.args.c _ p))));
       at_lt_place_count = c.refused-then-room-s.ensures.2;
@@ -52,17 +52,17 @@ returns-then-room-s c =
 pub overflow_sub-free : goal.overflow_sub-free
 overflow_sub-free c =
     let r : Raw = lent c.args.t c.args.queue.now c.args.staged.now c.args.sent.now in
-    omega (arith, (limits r c.requires.sent_value.0).staged_used)
+    omega (arith, (limits r c.requires.sound.0).staged_used)
 
 pub returns-then-free-marks_size : goal.returns-then-free-marks_size
 unfolding A.refusal A.refusal_number
 returns-then-free-marks_size c =
     let r : Raw = lent c.args.t c.args.queue.now c.args.staged.now c.args.sent.now in
-    let s = c.requires.sent_value in
+    let s = c.requires.sound in
     let h = c.requires.held_at in
     let p = c.in-Frames.ensures in
     record {
-      sent_after = λ route w.
+      as_called = λ route w.
           refusal_is r c.refused-then-free-marks_size.ensures.0 c.refused-then-free-marks_size.ensures.1
           ∙ sym (control-full r s.1 s.0 route c.args.number.0 c.args.i h.0 c.args.c h.1 w (planned_free r c.args.c _ p) (omega (arith, (limits r s.0).staged_used, c.if-free-marks_size.true, c.marks_size.ensures.0, marks_are c.args.t c.args.queue.now c.args.i c.args.c _ (planned_sizes r c.args.c _ p))));
       at_lt_place_count = c.refused-then-free-marks_size.ensures.2;
@@ -71,18 +71,18 @@ returns-then-free-marks_size c =
 pub send_flush-left-requires : goal.send_flush-left-requires
 send_flush-left-requires c =
     let r : Raw = lent c.args.t c.args.queue.now c.args.staged.now c.args.sent.now in
-    let s = c.requires.sent_value in
+    let s = c.requires.sound in
     let l = limits r s.0 in
     record {
       ready = planned_ready r c.args.c _ c.in-Frames.ensures s.1 s.0 _ _ c.requires.held_at.0;
-      staged_len_bound = (l.staged_long, omega (arith, l.staged_used, c.if-free-marks_size.false, c.marks_size.ensures.0));
-      sent_len_bound = (l.sent_long, omega (arith, l.sent_used, c.if-room-s.false));
+      staged_room = (l.staged_long, omega (arith, l.staged_used, c.if-free-marks_size.false, c.marks_size.ensures.0));
+      sent_room = (l.sent_long, omega (arith, l.sent_used, c.if-room-s.false));
     }
 
 pub returns : goal.returns
 returns c =
     let r : Raw = lent c.args.t c.args.queue.now c.args.staged.now c.args.sent.now in
-    let s = c.requires.sent_value in
+    let s = c.requires.sound in
     let h = c.requires.held_at in
     let p = c.in-Frames.ensures in
     let z = planned_sizes r c.args.c _ p in
@@ -90,7 +90,7 @@ returns c =
     let f = c.send_flush-left.ensures.straight in
     let a = answer-is r.held r.queue c.args.i c.args.c _ z c.answer.ensures in
     record {
-      sent_after = λ route w.
+      as_called = λ route w.
           (λ j. outcome (a j) (f.table j) (f.queue j) (f.staged j) (f.sent j))
           ∙ sym (sent_is r s.1 s.0 route c.args.number.0 c.args.i h.0 c.args.c h.1 w (planned_free r c.args.c _ p)
           (omega (arith, l.sent_used, c.if-room-s.false, size_is r.held r.queue c.args.i c.args.c _ z))

@@ -25,7 +25,7 @@ returns-then-l c =
     let l = c.least_from-l in
     let n = c.next_of.ensures in
     turn_next r c.typed.ensures c.requires w c.args.from l.result (least_of r c.typed.ensures c.requires _ l.result l.ensures) c.if-l.true n.1 _ _
-    (goes_by_lem r c.typed.ensures c.requires _ _ (finished c.finish-f.ensures c.flush_routed-done.ensures.sent_after))
+    (goes_by_lem r c.typed.ensures c.requires _ _ (finished c.finish-f.ensures c.flush_routed-done.ensures.as_called))
     _ n.0
 
 pub returns : goal.returns

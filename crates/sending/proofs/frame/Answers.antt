@@ -15,9 +15,9 @@ pub returns-then-n-buf : goal.returns-then-n-buf
 returns-then-n-buf c =
     let a = c.args in
     record {
-      fits = rw (c.frame_to-framed.ensures, c.kept.ensures) (record { place = c.requires.i_lt_place_count.0; slot = omega arith });
+      fits = rw (c.frame_to-framed.ensures, c.kept.ensures) (record { place = c.requires.place.0; slot = omega arith });
       is =
-          carried-all a.straight a.t a.i a.number.0 a.kind a.m a.buf.now a.queue.now a.out.now c.requires.i_lt_place_count.1 c.charge.ensures c.put_run-end.ensures.value c.out_used-at.ensures c.if-n-buf.true
+          carried-all a.straight a.t a.i a.number.0 a.kind a.m a.buf.now a.queue.now a.out.now c.requires.place.1 c.charge.ensures c.put_run-end.ensures.value c.out_used-at.ensures c.if-n-buf.true
           (c.frame_to-framed.ensures ∙ ap (λ x. framed_to a.straight x a.i c.charge.result c.put_run-end.result) c.kept.ensures) c.put_run-end.ensures.dst_after;
     }
 
@@ -34,8 +34,8 @@ returns c =
     let f = c.frame_to-framed.ensures ∙ ap (λ x. framed_to a.straight x a.i c.charge.result c.put_run-end.result) c.kept.ensures in
     let g = c.enter-all.ensures ∙ (λ j. entered (f j) (c.entry_of-rest.ensures j)) in
     record {
-      fits = rw g (record { place = c.requires.i_lt_place_count.0; slot = (c.requires.frames.rest (some (goal.at.returns c).Else-n-buf)).entry });
+      fits = rw g (record { place = c.requires.place.0; slot = (c.requires.frames.rest (some (goal.at.returns c).Else-n-buf)).entry });
       is =
-          carried-rest a.straight a.t a.i a.number.0 a.kind a.m a.buf.now a.queue.now a.out.now c.requires.i_lt_place_count.1 c.charge.ensures c.put_run-end.ensures.value c.out_used-at.ensures (some (goal.at.returns c).Else-n-buf) g
+          carried-rest a.straight a.t a.i a.number.0 a.kind a.m a.buf.now a.queue.now a.out.now c.requires.place.1 c.charge.ensures c.put_run-end.ensures.value c.out_used-at.ensures (some (goal.at.returns c).Else-n-buf) g
           (rw (rest-is (goal.at.returns c).Else-n-buf) at c.copy_in.ensures) c.put_run-end.ensures.dst_after;
     }

@@ -21,7 +21,7 @@ can c e = let a = c.args in able a.straight a.t a.r a.held a.kind a.buf.now _ _ 
 pub frame-requires : goal.frame-requires
 frame-requires c =
     let y = c.requires in
-    record { i_lt_place_count = (y.place, y.record_is, y.ready.queue_long, y.ready.out_long); frames = can (goal.at.frame-requires c).After-decide-plan c.in-Frame.is }
+    record { place = (y.place, y.record_is, y.ready.queue_long, y.ready.out_long); frames = can (goal.at.frame-requires c).After-decide-plan c.in-Frame.is }
 
 pub returns-in-Refuse : goal.returns-in-Refuse
 unfolding N.carried

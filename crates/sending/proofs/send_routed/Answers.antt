@@ -17,7 +17,7 @@ returns-then-t-eq0 c =
     let a = c.args in
     let e = c.send.ensures in record {
       fits = e.fits;
-      sent_after = e.sending a.staged.now (record { form = C.straight; rekey = a.rekey }) c.requires.is
+      as_called = e.sending a.staged.now (record { form = C.straight; rekey = a.rekey }) c.requires.is
           (lends (lent a.t a.queue.now a.staged.now a.sent.now) c.requires.typed C.straight a.rekey true (eq-eqb a.t.staged_used 0 c.if-t-eq0.true));
     }
 
@@ -31,6 +31,6 @@ returns c =
     let a = c.args in
     let e = c.send-2.ensures in record {
       fits = e.fits;
-      sent_after = e.sending a.sent.now (record { form = C.straight; rekey = a.rekey }) c.requires.is
+      as_called = e.sending a.sent.now (record { form = C.straight; rekey = a.rekey }) c.requires.is
           (lends (lent a.t a.queue.now a.staged.now a.sent.now) c.requires.typed C.straight a.rekey false (ne_eqb a.t.staged_used 0 c.if-t-eq0.false));
     }

@@ -19,7 +19,7 @@ next-preserved c =
     let t = c.args.t in
     let n = c.next in
     let i = c.tried-i in
-    let there = found_at t.records t.used i.result _ _ (omega arith) c.requires.t_value (sym c.place_has.ensures ∙ c.if-place_has.true) in
+    let there = found_at t.records t.used i.result _ _ (omega arith) c.requires.places_distinct (sym c.place_has.ensures ∙ c.if-place_has.true) in
     let named = n.invariant.2 ∙ named_go t.entry_count t.entries [] n.k (places_in t) _ (omega arith) (omega arith) (confirmed_of _ (places_in t) _ there ∙ c.if-r.true) in
     let sum = sum-next t.entries t.entry_count n.k zero_entry (omega arith) (omega arith) in
     let waits = entry_more t _ n.k _ n.waits _ (omega arith) (omega arith) c.entry_has-waits.ensures n.invariant.4 in
@@ -30,7 +30,7 @@ returns-then-place_has c =
     let t = c.args.t in
     let n = c.next in
     let i = c.tried-i in
-    let there = found_at t.records t.used i.result _ _ (omega arith) c.requires.t_value (sym c.place_has.ensures ∙ c.if-place_has.true) in
+    let there = found_at t.records t.used i.result _ _ (omega arith) c.requires.places_distinct (sym c.place_has.ensures ∙ c.if-place_has.true) in
     entries_unnamed t _ _ _ c.unnamed.ensures
     (n.invariant.2 ∙ named_stop t.entry_count t.entries [] n.k (places_in t) _ (omega arith) (omega arith) (confirmed_of _ (places_in t) _ there ∙ c.if-r.false))
 

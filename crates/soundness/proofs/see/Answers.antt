@@ -51,12 +51,12 @@ decided c b z =
     sound-rest (lent c.args.t c.args.queue.now c.args.staged.now c.args.sent.now) _ _ _ b (sym c.limits.ensures ∙ c.if-limits.true) (sym c.look_over-look.ensures.is ∙ c.if-look.true) c.entries_sound-entries.ensures.is c.marks_sound.ensures c.whole_frames.ensures z
 
 pub entries_sound-entries-requires : goal.entries_sound-entries-requires
-entries_sound-entries-requires c = record { sized = sized (goal.at.entries_sound-entries-requires c).Then-limits; t_value = tidy-distinct (table (goal.at.entries_sound-entries-requires c).After-shared_slice_known-3-1) (tidied (goal.at.entries_sound-entries-requires c).Then-look) }
+entries_sound-entries-requires c = record { sized = sized (goal.at.entries_sound-entries-requires c).Then-limits; places_distinct = tidy-distinct (table (goal.at.entries_sound-entries-requires c).After-shared_slice_known-3-1) (tidied (goal.at.entries_sound-entries-requires c).Then-look) }
 
 pub marks_sound-requires : goal.marks_sound-requires
 unfolding T.marks_sound
 marks_sound-requires c =
-    record { sized = sized (goal.at.marks_sound-requires c).Then-limits; t_value = λ e. c.look_over-look.ensures.unmarked c.if-look.true e (entries_in (table (goal.at.marks_sound-requires c).After-shared_slice_known-3-1)) }
+    record { sized = sized (goal.at.marks_sound-requires c).Then-limits; unmarked = λ e. c.look_over-look.ensures.unmarked c.if-look.true e (entries_in (table (goal.at.marks_sound-requires c).After-shared_slice_known-3-1)) }
 
 pub returns-in-Nothing : goal.returns-in-Nothing
 unfolding S.SeenAs H.Seats

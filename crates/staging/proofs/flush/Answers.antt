@@ -43,7 +43,7 @@ front_run-front-requires c =
     ((bounds (goal.at.front_run-front-requires c).Then-is_sound).staged_used, (clauses (state (goal.at.front_run-front-requires c).After-is_sound) (ok (goal.at.front_run-front-requires c).Then-is_sound)).whole)
 
 pub move_out-requires : goal.move_out-requires
-move_out-requires c = omega (arith, bounds (goal.at.move_out-requires c).Then-is_sound, c.front_run-front.ensures.bytes_le_used)
+move_out-requires c = omega (arith, bounds (goal.at.move_out-requires c).Then-is_sound, c.front_run-front.ensures.bounds)
 
 pub returns-else-rekey : goal.returns-else-rekey
 unfolding A.moved
@@ -51,7 +51,7 @@ returns-else-rekey c =
     let r = state (goal.at.returns-else-rekey c).After-is_sound in
     let e = c.front_run-front.ensures in
     (λ i. outcome (moved c.front_run-front.result.frames c.front_run-front.result.bytes) (c.with_counts-next.ensures i) r.queue (c.move_out.ensures.staged_after i) (c.move_out.ensures.sent_after i))
-    ∙ sym (ap (λ x. called r (flush_staged x)) c.if-rekey.false ∙ moved-is r (test (goal.at.returns-else-rekey c).After-is_sound).typed (ok (goal.at.returns-else-rekey c).Then-is_sound) _ _ e.frames_value.0 e.frames_value.1 e.bytes_le_used.1)
+    ∙ sym (ap (λ x. called r (flush_staged x)) c.if-rekey.false ∙ moved-is r (test (goal.at.returns-else-rekey c).After-is_sound).typed (ok (goal.at.returns-else-rekey c).Then-is_sound) _ _ e.fitting_run.0 e.fitting_run.1 e.bounds.1)
 
 pub returns-else-is_sound : goal.returns-else-is_sound
 unfolding A.moved A.refusal A.refusal_number
