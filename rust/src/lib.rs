@@ -1,9 +1,9 @@
 //! The channels of an SSH connection (RFC 4254, section 5): numbers given out and taken back, data cut into packets up to the peer's
 //! window, what must wait queued, and the peer's messages acted on.
 //!
-//! Every call is one function of a library that is proved: its answer and every byte of its state are those of one definition, for every
-//! input ("the rules" below are docs/RULES.md of the repository). This crate is the wrapper
-//! for Rust. It has no dependencies, and `unsafe` only where it calls the library.
+//! Every call is one function of a library that is proved: its answer and every byte of its state are those of one definition, for
+//! every input ("the rules" below are docs/RULES.md of the repository). This crate is the wrapper for Rust. It has no dependencies, and
+//! `unsafe` only where it calls the library.
 //!
 //! All state is in [`Channels`]. A connection feeds each message of the peer's to [`Channels::incoming`], sends with [`Channels::data`] and
 //! its sisters, and hands [`Channels::sent`] to its cipher:
@@ -37,7 +37,7 @@
 //!
 //! The library is an archive for Linux on x86-64. The build script makes it by `rt lib` in `crates/exports` of the repository, the crate's
 //! parent folder, unless there is one newer than its sources; or it takes the one in the folder that `OXENHUSH_LIB_DIR` names. `rust/test`
-//! runs the crate's tests, on another processor under an emulator.
+//! runs the crate's tests, on another processor with an archive made on x86-64, under an emulator.
 
 #![deny(unsafe_code)]
 #![warn(missing_docs)]

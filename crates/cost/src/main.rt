@@ -96,7 +96,7 @@ fn copy(t: Table, rounds: u32) -> u64 {
     sum
 }
 
-// The processor time used so far, in microseconds.
+// The processor time used so far, in microseconds; 0 where the clock fails.
 fn micros(rt: &impl CpuClock) -> u64 {
     match rt.process_cpu_time() {
         Ok(used) => used
@@ -196,6 +196,6 @@ fn timed(reader: &mut impl Read) -> io::Result<bool> {
 }
 
 fn main(rt: HostRuntime) -> io::Result<()> {
-    let timed = timed(&mut rt.stdin())?;
-    show_all(&rt, timed)
+    let asked = timed(&mut rt.stdin())?;
+    show_all(&rt, asked)
 }
