@@ -18,7 +18,8 @@ fn read_at<R: Read>(reader: &mut R, buf: &mut [u8], at: usize) -> io::Result<usi
     reader.read(&mut buf[at..])
 }
 
-// Reads until the buffer is full or the reader ends. Answers how many bytes came: they stand at the buffer's start, one after the other.
+// Reads until the buffer is full or the reader ends. Answers how many bytes came: they stand at the buffer's start, one after the other. What
+// stands behind them, and what a failed read left, is not said.
 pub fn read_full<R: Read>(reader: &mut R, buf: &mut [u8]) -> io::Result<usize>
     ensures within { IfOk result (λ n. n ≤ length buf.new) }
     ensures bytes { IfOk result (λ n. Consumes (R.remaining reader.old) (R.remaining reader.new) (take n buf.new)) }

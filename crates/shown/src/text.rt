@@ -1,5 +1,6 @@
 // Text on its way to standard output: it is collected in a buffer, which is written when it is full and at the end. `at` is the count of
-// bytes that are collected and not yet written, and each function answers the new count, or the error of a write.
+// bytes that are collected and not yet written, and each function answers the new count, or the error of a write: what was collected is
+// given up then.
 use itoa::Buffer;
 use std::io;
 

@@ -2,7 +2,7 @@
 use Prim.Native.Nat.{◌<◌}
 use native.Mathlib.Omega.{arith}
 use lib.Seq.{length-take-le}
-use Rattle.frames.proofs.Walk.{left-start, left-some, left_stop, left-go, left_end}
+use Rattle.frames.proofs.Walk.{left-some, left_stop, left-go, left_end}
 use Rattle.frames.proofs.front_run.Goals as goal
 use Rattle.frames.proofs.front_run.Goals.{After-frame_at-n}
 

@@ -1,6 +1,6 @@
 -- The invariant: the packets of what is left of src, written at pos into what dst is now, give what the whole is to be, and end
 -- where the whole ends. A turn is run_room and run-write.
-use mathlib.Core.Path.{◌≡◌, refl, sym, ap, ◌∙◌}
+use mathlib.Core.Path.{◌≡◌, sym, ap, ◌∙◌}
 use Prim.Native.Nat.{◌+◌}
 use native.Mathlib.Omega.{arith}
 use lib.ListN.{length, drop, length-take, length-drop}

@@ -1,7 +1,7 @@
 -- The count is the rules', and length_run says that it is what channel's packets take.
 use mathlib.Core.Path.{sym, ap, ◌∙◌}
 use native.Mathlib.Omega.{arith}
-use Rattle.frames.proofs.Packets.{ceil_div, run_size, heads_le, length_run}
+use Rattle.frames.proofs.Packets.{ceil_div, run_size, length_run}
 use Rattle.frames.proofs.size_of_run.Goals as goal
 
 pub returns : goal.returns

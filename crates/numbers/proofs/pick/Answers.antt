@@ -1,6 +1,6 @@
 -- `numbers::pick` meets its contract. The outer loop: the number to pick is the first free one from the number tried on, which comes one
 -- nearer with each turn. The inner loop: whether the number tried is used is told by the places from i on.
-use Rattle.std.proofs.Common.{◌≡◌, true, false, length, sym, refl, ap, ◌∙◌, arith, rules}
+use Rattle.std.proofs.Common.{◌≡◌, true, false, length, sym, ap, ◌∙◌, arith}
 use Rattle.laws.proofs.Tests.{shut}
 use Rattle.channel.specs.State.{place_count, is_used}
 use Rattle.channel.specs.Raw.{places_of}

@@ -1,8 +1,8 @@
 -- The invariant: what is left to store, stored into what dst is now, is what the whole is to be.
-use mathlib.Core.Path.{refl, sym, ◌∙◌}
+use mathlib.Core.Path.{sym, ◌∙◌}
 use native.Mathlib.Omega.{arith}
 use lib.ListN.{length-set}
-use Rattle.octets.proofs.Laws.{write-start, write_step, write_end}
+use Rattle.octets.proofs.Laws.{write_step, write_end}
 use Rattle.octets.proofs.copy_in.Goals as goal
 
 pub loop-j-preserved : goal.loop-j-preserved

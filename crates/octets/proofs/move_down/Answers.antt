@@ -1,9 +1,9 @@
 -- The invariant: from the place of the next store on buf is as it came, so what is left to move is still there; moved into
 -- what buf is now, it gives what the whole is to be.
-use mathlib.Core.Path.{refl, sym, ◌∙◌}
+use mathlib.Core.Path.{sym, ◌∙◌}
 use native.Mathlib.Omega.{arith}
 use lib.ListN.{length-set, length-take, length-drop}
-use Rattle.octets.proofs.Laws.{write-start, write_step, write_end, moved_byte, moved-rest, write_same}
+use Rattle.octets.proofs.Laws.{write_step, write_end, moved_byte, moved-rest, write_same}
 use Rattle.octets.proofs.move_down.Goals as goal
 
 pub returns-then-gap-eq0 : goal.returns-then-gap-eq0

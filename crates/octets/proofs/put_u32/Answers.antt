@@ -1,7 +1,5 @@
 -- Four stores, one after the other, are `write` of the four bytes.
-use native.Mathlib.Omega.{arith}
 use mathlib.Core.Path.{refl}
-use lib.ListN.{length-set}
 use Rattle.octets.specs.Buf.{write, be32}
 use Rattle.octets.proofs.put_u32.Goals as goal
 

@@ -1,9 +1,9 @@
 -- The invariant: what is left to store, stored into what buf is now, is what the whole is to be.
-use mathlib.Core.Path.{refl, sym, ◌∙◌}
+use mathlib.Core.Path.{sym, ◌∙◌}
 use Prim.Native.Nat.{ℕ}
 use native.Mathlib.Omega.{arith}
 use lib.ListN.{length-set, length-replicate, get_or-replicate}
-use Rattle.octets.proofs.Laws.{write-start, write_step, write_end}
+use Rattle.octets.proofs.Laws.{write_step, write_end}
 use Rattle.octets.proofs.put_zeros.Goals as goal
 
 pub loop-j-preserved : goal.loop-j-preserved

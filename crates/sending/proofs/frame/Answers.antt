@@ -1,11 +1,9 @@
 -- What is framed and what is left over make up buf; carried-all and carried-rest put the steps of the change together.
-use Prim.Native.Nat.{◌+◌, ◌-◌, ◌≤◌, ◌<◌}
-use lib.ListN.{length, take, drop, length-take, length-drop}
+use Prim.Native.Nat.{◌-◌, ◌<◌}
+use lib.ListN.{length, take, drop, length-drop}
 use lib.Seq.{take_all}
 use mathlib.Core.Path.{◌≡◌, ap, ◌∙◌}
-use borrow.Author.Rules.{rules}
 use native.Mathlib.Omega.{arith}
-use Rattle.channel.specs.State.{most_bytes}
 use Rattle.sending.specs.Carried.{entered, framed_to}
 use Rattle.sending.proofs.Cases.{carried-all, carried-rest}
 use Rattle.sending.proofs.frame.Goals as goal

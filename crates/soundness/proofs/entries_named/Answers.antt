@@ -2,12 +2,12 @@
 -- the hinted place and turn j the place j - 1, so the record is the one found from place j - 1 on; a hit at any place is the record,
 -- since numbers are distinct.
 use Prim.Native.Nat.{◌-◌}
-use mathlib.Core.Path.{refl, sym, ◌∙◌}
+use mathlib.Core.Path.{sym, ◌∙◌}
 use mathlib.Core.List.{[]}
 use native.Mathlib.Omega.{arith}
 use Rattle.channel.specs.Raw.{zero_entry}
 use Rattle.channel.specs.Raw as R
-use Rattle.lookup.proofs.Walk.{named_go, named_stop, named_past, confirmed_of, confirmed-none, look-past, sum-start, sum-next, sum_past, any_past}
+use Rattle.lookup.proofs.Walk.{named_go, named_stop, named_past, confirmed_of, confirmed-none, look-past, sum-next, sum_past, any_past}
 use Rattle.soundness.specs.Tested.{places_in}
 use Rattle.soundness.proofs.Places.{found_at, scan_more}
 use Rattle.soundness.proofs.Parts.{entries_unnamed, entry_more, entries-sum}

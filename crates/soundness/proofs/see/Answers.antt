@@ -13,7 +13,7 @@ use Rattle.lookup.specs.Held as H
 use Rattle.soundness.specs.Tested.{Sized, limited, tidy, entries_in}
 use Rattle.soundness.specs.Tested as T
 use Rattle.soundness.specs.Sees as S
-use Rattle.soundness.proofs.Parts.{limits_few, limits_staged, sound_limits, sound-tidy, sound-rest, tidy-distinct}
+use Rattle.soundness.proofs.Parts.{limits_few, sound_limits, sound-tidy, sound-rest, tidy-distinct}
 use Rattle.soundness.proofs.see.Goals as goal
 use Rattle.soundness.proofs.see.Goals.{After-shared_slice_known-3-1, After-whole_frames, Then-limits, Then-look}
 

@@ -1,6 +1,6 @@
 -- The used part is whole frames if it is from `at` on: each turn is one law of the walk over frames.
 use Prim.Native.Nat.{◌<◌}
-use mathlib.Core.Path.{refl, sym, ap, ◌∙◌}
+use mathlib.Core.Path.{sym, ap, ◌∙◌}
 use lib.ListN.{take, drop, drop_of_length-le}
 use lib.Seq.{length-take-le, drop-drop}
 use native.Mathlib.Omega.{arith}
