@@ -1,5 +1,5 @@
 //! Finds the archive of the proved library, or makes it. Its folder is `OXENHUSH_LIB_DIR` (an absolute path) if that is set; else
-//! `crates/exports/out` of the repository, the crate's parent folder, where `rt lib` in `crates/exports` writes it.
+//! `target/staticlib` of the repository, the crate's parent folder, where `tools/archive` writes it.
 
 use std::ffi::OsStr;
 use std::path::{Path, PathBuf};
@@ -60,8 +60,7 @@ fn is_fresh(archive: &Path, sources: &[PathBuf]) -> bool {
 /// Proves the library and everything below it, as far as that is not yet done, and writes the archive. `rt` reads all that it kept of earlier
 /// proofs each time, so it is not asked where nothing changed.
 fn make_archive(root: &Path) -> PathBuf {
-    let library = root.join("crates").join("exports");
-    let folder = library.join("out");
+    let folder = root.join("target").join("staticlib");
     let sources = sources(root);
     for source in &sources {
         println!("cargo:rerun-if-changed={}", source.display());
@@ -69,14 +68,14 @@ fn make_archive(root: &Path) -> PathBuf {
     if is_fresh(&folder.join("libexports.a"), &sources) {
         return folder;
     }
-    match Command::new("rt").arg("lib").current_dir(&library).status() {
+    match Command::new(root.join("tools").join("archive")).status() {
         Ok(status) if status.success() => {}
-        Ok(status) => stop(&format!("`rt lib` in {} failed: {status}", library.display())),
-        Err(error) if error.kind() == io::ErrorKind::NotFound => stop(
+        Ok(status) if status.code() == Some(127) => stop(
             "there is no `rt` to make the archive with. Install the Rattle kit (README.md), \
              or set OXENHUSH_LIB_DIR to a folder that has libexports.a.",
         ),
-        Err(error) => stop(&format!("`rt lib` could not be run: {error}")),
+        Ok(status) => stop(&format!("`tools/archive` in {} failed: {status}", root.display())),
+        Err(error) => stop(&format!("`tools/archive` could not be run: {error}")),
     }
     folder
 }

@@ -35,9 +35,9 @@
 //!
 //! # Building
 //!
-//! The library is an archive for Linux on x86-64. The build script makes it by `rt lib` in `crates/exports` of the repository, the crate's
-//! parent folder, unless there is one newer than its sources; or it takes the one in the folder that `OXENHUSH_LIB_DIR` names. `rust/test`
-//! runs the crate's tests, on another processor with an archive made on x86-64, under an emulator.
+//! The library is an archive for Linux on x86-64. The build script makes it by `tools/archive` of the repository, the crate's parent
+//! folder, unless there is one newer than its sources; or it takes the one in the folder that `OXENHUSH_LIB_DIR` names. `rust/test` runs
+//! the crate's tests, on another processor with an archive made on x86-64, under an emulator.
 
 #![deny(unsafe_code)]
 #![warn(missing_docs)]

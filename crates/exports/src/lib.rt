@@ -33,6 +33,7 @@ pub struct Reply {
 }
 
 // The empty table.
+#[inline(always)]
 #[unsafe(no_mangle)]
 pub extern "C" fn oxenhush_table_new() -> Table
     ensures { result ≡ empty_table }
@@ -41,6 +42,7 @@ pub extern "C" fn oxenhush_table_new() -> Table
 }
 
 // Opens a record at the first free number after the last. Value: the number.
+#[inline(always)]
 #[unsafe(no_mangle)]
 pub extern "C" fn oxenhush_new_channel(
     t: Table,
@@ -63,6 +65,7 @@ pub extern "C" fn oxenhush_new_channel(
 }
 
 // Picks a number in the same way and opens nothing. Value: the number.
+#[inline(always)]
 #[unsafe(no_mangle)]
 pub extern "C" fn oxenhush_new_channel_id(
     t: Table,
@@ -83,6 +86,7 @@ pub extern "C" fn oxenhush_new_channel_id(
 }
 
 // Opens a confirmed record at a number that the caller gives. No value.
+#[inline(always)]
 #[unsafe(no_mangle)]
 pub extern "C" fn oxenhush_open_for_peer(
     t: Table,
@@ -120,6 +124,7 @@ pub extern "C" fn oxenhush_open_for_peer(
 }
 
 // Data in packets into staged; what the window leaves over is queued. Value: the bytes framed now.
+#[inline(always)]
 #[unsafe(no_mangle)]
 pub extern "C" fn oxenhush_data(
     t: Table,
@@ -143,6 +148,7 @@ pub extern "C" fn oxenhush_data(
 }
 
 // The same, into sent where nothing is staged.
+#[inline(always)]
 #[unsafe(no_mangle)]
 pub extern "C" fn oxenhush_data_with_writer(
     t: Table,
@@ -166,6 +172,7 @@ pub extern "C" fn oxenhush_data_with_writer(
 }
 
 // Extended data with its code, into staged. Value: the bytes framed now.
+#[inline(always)]
 #[unsafe(no_mangle)]
 pub extern "C" fn oxenhush_extended_data(
     t: Table,
@@ -190,6 +197,7 @@ pub extern "C" fn oxenhush_extended_data(
 }
 
 // The same, into sent where nothing is staged.
+#[inline(always)]
 #[unsafe(no_mangle)]
 pub extern "C" fn oxenhush_extended_data_with_writer(
     t: Table,
@@ -223,6 +231,7 @@ pub extern "C" fn oxenhush_extended_data_with_writer(
 }
 
 // No more data will come on the channel. No value.
+#[inline(always)]
 #[unsafe(no_mangle)]
 pub extern "C" fn oxenhush_eof(
     t: Table,
@@ -244,6 +253,7 @@ pub extern "C" fn oxenhush_eof(
 }
 
 // The channel is closed at this end. No value.
+#[inline(always)]
 #[unsafe(no_mangle)]
 pub extern "C" fn oxenhush_close(
     t: Table,
@@ -265,6 +275,7 @@ pub extern "C" fn oxenhush_close(
 }
 
 // n bytes were received on the channel. Value: 1 if a WINDOW_ADJUST was staged, else 0.
+#[inline(always)]
 #[unsafe(no_mangle)]
 pub extern "C" fn oxenhush_adjust_window_size(
     t: Table,
@@ -288,6 +299,7 @@ pub extern "C" fn oxenhush_adjust_window_size(
 }
 
 // The receive window, 0 for an unknown number. Value: that window.
+#[inline(always)]
 #[unsafe(no_mangle)]
 pub extern "C" fn oxenhush_sender_window_size(
     t: Table,
@@ -303,6 +315,7 @@ pub extern "C" fn oxenhush_sender_window_size(
 }
 
 // Whether the channel has an entry, no for an unknown number. Value: 1 or 0.
+#[inline(always)]
 #[unsafe(no_mangle)]
 pub extern "C" fn oxenhush_has_pending_data(
     t: Table,
@@ -318,6 +331,7 @@ pub extern "C" fn oxenhush_has_pending_data(
 }
 
 // The pending flush of one channel into staged. Values: 1, the bytes framed and the two marks if complete, else 0 and the bytes framed.
+#[inline(always)]
 #[unsafe(no_mangle)]
 pub extern "C" fn oxenhush_flush_pending(
     t: Table,
@@ -339,6 +353,7 @@ pub extern "C" fn oxenhush_flush_pending(
 }
 
 // The same, straight into sent while staged is empty and rekey is off.
+#[inline(always)]
 #[unsafe(no_mangle)]
 pub extern "C" fn oxenhush_flush_pending_with_writer(
     t: Table,
@@ -368,6 +383,7 @@ pub extern "C" fn oxenhush_flush_pending_with_writer(
 }
 
 // The pending flush of all channels into staged, in ascending number. Value beside a refusal: the channel that it stopped at.
+#[inline(always)]
 #[unsafe(no_mangle)]
 pub extern "C" fn oxenhush_flush_all_pending(
     t: Table,
@@ -388,6 +404,7 @@ pub extern "C" fn oxenhush_flush_all_pending(
 }
 
 // The same in the writer form.
+#[inline(always)]
 #[unsafe(no_mangle)]
 pub extern "C" fn oxenhush_flush_all_pending_with_writer(
     t: Table,
@@ -409,6 +426,7 @@ pub extern "C" fn oxenhush_flush_all_pending_with_writer(
 }
 
 // The longest front run of staged's frames that fits moves to sent. Values: 1, the frames and the bytes, or 0 if rekey holds it.
+#[inline(always)]
 #[unsafe(no_mangle)]
 pub extern "C" fn oxenhush_flush(
     t: Table,
@@ -430,6 +448,7 @@ pub extern "C" fn oxenhush_flush(
 }
 
 // Sent is emptied. No value.
+#[inline(always)]
 #[unsafe(no_mangle)]
 pub extern "C" fn oxenhush_drain(t: Table, queue: &[u8], staged: &[u8], sent: &mut [u8]) -> Reply
     ensures { left result queue.now staged.now sent.new
@@ -445,6 +464,7 @@ pub extern "C" fn oxenhush_drain(t: Table, queue: &[u8], staged: &[u8], sent: &m
 }
 
 // One payload is read and acted on. Values: the message's type and its fields, in their order.
+#[inline(always)]
 #[unsafe(no_mangle)]
 pub extern "C" fn oxenhush_incoming(
     t: Table,
