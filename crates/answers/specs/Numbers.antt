@@ -7,7 +7,7 @@ use Rattle.channel.specs.Call as C
 use Rattle.answers.specs.declared.Numbers.{Numbers}
 
 -- the rules' number; 0 is no refusal
-unfoldable pub refusal_in : C.Answer → ℕ
+abbrev pub refusal_in : C.Answer → ℕ
 refusal_in (C.refused k) = k
 refusal_in (C.stopped n k) = k
 refusal_in (C.gave r) = 0
@@ -24,7 +24,7 @@ received n Plain start size = 94 ∷ n ∷ start ∷ size ∷ []
 received n (Extended code) start size = 95 ∷ n ∷ code ∷ start ∷ size ∷ []
 
 -- a message's type and its fields, in their order
-unfoldable pub message_values : C.Message → List ℕ
+abbrev pub message_values : C.Message → List ℕ
 message_values (C.confirmation n peer window limit) = 91 ∷ n ∷ peer ∷ window ∷ limit ∷ []
 message_values (C.failure n reason start size start' size') = 92 ∷ n ∷ reason ∷ start ∷ size ∷ start' ∷ size' ∷ []
 message_values (C.credit n add) = 93 ∷ n ∷ add ∷ []
@@ -33,7 +33,7 @@ message_values (C.ended n) = 96 ∷ n ∷ []
 message_values (C.closed n) = 97 ∷ n ∷ []
 
 -- a pending flush that is complete starts with 1, one that is not with 0
-unfoldable pub result_values : C.Result → List ℕ
+abbrev pub result_values : C.Result → List ℕ
 result_values C.done = []
 result_values C.held = 0 ∷ []
 result_values (C.number n) = n ∷ []
@@ -46,7 +46,7 @@ result_values (C.window_is n) = n ∷ []
 result_values (C.pending_is b) = digit b ∷ []
 
 -- a refusal has no value, save the channel that a flush of all stopped at; a staged flush that was not held starts with 1
-unfoldable pub values_in : C.Answer → List ℕ
+abbrev pub values_in : C.Answer → List ℕ
 values_in (C.refused k) = []
 values_in (C.stopped n k) = n ∷ []
 values_in (C.gave r) = result_values r
@@ -60,5 +60,5 @@ padded vs = take 7 (vs ++ replicate 7 0)
 abbrev pub listed : ℕ → List ℕ → Numbers
 listed k vs = record { refusal = k; count = length vs; values = padded vs }
 
-unfoldable pub numbers_of : C.Answer → Numbers
+abbrev pub numbers_of : C.Answer → Numbers
 numbers_of a = listed (refusal_in a) (values_in a)

@@ -2,291 +2,250 @@
 // by hand (the file `stdout`).
 #![tactic(auto)]
 
-use channel::{Acted, ChannelFlushResult, ChannelId, PeerNumber, Picked, Refusal, Sent, Table};
-use std::io;
+use channel::{ChannelFlushResult, ChannelId, PeerNumber, Refusal, Table};
+use std::{fmt, io};
 
-// The number of a refusal, as the rules have it.
-fn refusal_number(k: Refusal) -> u64 {
-    match k {
-        Refusal::State => 1,
-        Refusal::Unknown => 2,
-        Refusal::Unconfirmed => 3,
-        Refusal::Limit => 4,
-        Refusal::Room => 5,
-        Refusal::Credit => 6,
-        Refusal::Malformed => 7,
-        Refusal::Already => 8,
+// How many bytes a call framed, in words.
+#[derive(Drop)]
+struct Framed(u32);
+
+impl fmt::Display for Framed {
+    fn fmt<W: fmt::Write>(&self, f: &mut fmt::Formatter<W>) -> fmt::Result {
+        write!(f, "framed {}", self.0)
     }
 }
 
-// A refusal, in words.
-fn show_refusal(rt: &impl Print, k: Refusal) -> io::Result<()> {
-    print!(rt; " refused {}", refusal_number(k))
-}
+// How far a pending flush got, in words.
+#[derive(Drop)]
+struct Flushed(ChannelFlushResult);
 
-fn show_picked(rt: &impl Print, p: Picked) -> io::Result<()> {
-    match p {
-        Picked::Number(n) => print!(rt; " {}", n.0),
-        Picked::Refused(k) => show_refusal(rt, k),
+impl fmt::Display for Flushed {
+    fn fmt<W: fmt::Write>(&self, f: &mut fmt::Formatter<W>) -> fmt::Result {
+        match self.0 {
+            ChannelFlushResult::Incomplete(n) => write!(f, "incomplete {n}"),
+            ChannelFlushResult::Complete(c) => write!(f, "complete {}", c.wrote),
+        }
     }
 }
 
-fn show_acted(rt: &impl Print, a: Acted) -> io::Result<()> {
-    match a {
-        Acted::Done => print!(rt; " done"),
-        Acted::Refused(k) => show_refusal(rt, k),
+// What a call gave, or the number of its refusal.
+fn show<T: fmt::Display + Drop>(rt: &impl Print, answer: Result<T, Refusal>) -> io::Result<()> {
+    match answer {
+        Ok(gave) => print!(rt; " {gave}"),
+        Err(k) => print!(rt; " refused {}", u32::from(k)),
     }
-}
-
-fn show_sent(rt: &impl Print, s: Sent) -> io::Result<()> {
-    match s {
-        Sent::Framed(n) => print!(rt; " framed {n}"),
-        Sent::Refused(k) => show_refusal(rt, k),
-    }
-}
-
-fn show_flush(rt: &impl Print, f: ChannelFlushResult) -> io::Result<()> {
-    match f {
-        ChannelFlushResult::Incomplete(n) => print!(rt; " incomplete {n}"),
-        ChannelFlushResult::Complete(c) => print!(rt; " complete {}", c.wrote),
-        ChannelFlushResult::Refused(k) => show_refusal(rt, k),
-    }
-}
-
-// A byte as a wider number.
-fn wide(b: u8) -> u64 {
-    b as u64
 }
 
 // A buffer whole, in hexadecimal.
 fn show_bytes(rt: &impl Print, bytes: &[u8]) -> io::Result<()> {
-    for i in 0..bytes.len() {
-        print!(rt; "{:02x}", wide(bytes[i]))?;
+    for b in bytes {
+        print!(rt; "{b:02x}")?;
     }
-    line(rt)
+    println!(rt)
 }
 
-fn line(rt: &impl Print) -> io::Result<()> {
-    print!(rt; "\n")
+// A table, with the buffers that are lent for it.
+#[derive(Drop)]
+struct Lent<const QUEUE: usize, const STAGED: usize> {
+    table: Table,
+    queue: [u8; QUEUE],
+    staged: [u8; STAGED],
+    sent: [u8; 8],
 }
 
-// One opening at the number that the table picks.
-fn open_one(rt: &impl Print, t: Table) -> io::Result<Table> {
-    let lent = [0u8; 8];
-    let o = numbers::new_channel(t, &lent, &lent, &lent, 64, 32);
-    let answer = o.answer;
-    show_picked(rt, answer)?;
-    let next = o.table;
-    Ok(next)
-}
-
-// n openings, one after the other.
-fn open_many(rt: &impl Print, start: Table, n: u32) -> io::Result<Table> {
-    let mut t = start;
-    for _ in 0..n {
-        t = open_one(rt, t)?;
+impl<const QUEUE: usize, const STAGED: usize> Lent<QUEUE, STAGED> {
+    // The buffers of zeros.
+    fn new(table: Table) -> Self {
+        Lent {
+            table,
+            queue: [0; QUEUE],
+            staged: [0; STAGED],
+            sent: [0; 8],
+        }
     }
-    line(rt)?;
-    Ok(t)
-}
 
-// An opening for the peer at a number.
-fn open_at(rt: &impl Print, t: Table, n: u32) -> io::Result<Table> {
-    let lent = [0u8; 8];
-    let o = numbers::open_for_peer(
-        t,
-        &lent,
-        &lent,
-        &lent,
-        ChannelId(n),
-        PeerNumber(7),
-        64,
-        32,
-        5,
-        3,
-    );
-    let answer = o.answer;
-    show_acted(rt, answer)?;
-    let next = o.table;
-    Ok(next)
+    // n openings, each at the number that the table picks.
+    fn open_many(&mut self, rt: &impl Print, n: u32) -> io::Result<()> {
+        for _ in 0..n {
+            let t = &mut self.table;
+            let opened = numbers::new_channel(t, &self.queue, &self.staged, &self.sent, 64, 32);
+            show(rt, opened.map(|number| number.0))?;
+        }
+        println!(rt)
+    }
+
+    // A number picked, and nothing opened at it.
+    fn pick(&mut self, rt: &impl Print) -> io::Result<()> {
+        let t = &mut self.table;
+        let picked = numbers::new_channel_id(t, &self.queue, &self.staged, &self.sent);
+        show(rt, picked.map(|number| number.0))
+    }
+
+    // An opening for the peer at each of the numbers, with the peer's window 5 and limit 3.
+    fn open_at(&mut self, rt: &impl Print, at: &[u32]) -> io::Result<()> {
+        for n in at {
+            let opened = numbers::open_for_peer(
+                &mut self.table,
+                &self.queue,
+                &self.staged,
+                &self.sent,
+                ChannelId(*n),
+                PeerNumber(7),
+                64,
+                32,
+                5,
+                3,
+            );
+            show(rt, opened.map(|()| "done"))?;
+        }
+        Ok(())
+    }
+
+    // Data on a channel; during rekey it is queued.
+    fn put(&mut self, rt: &impl Print, n: u32, bytes: &[u8], rekey: bool) -> io::Result<()> {
+        let sent = sending::data(
+            &mut self.table,
+            &mut self.queue,
+            &mut self.staged,
+            &self.sent,
+            ChannelId(n),
+            bytes,
+            rekey,
+        );
+        show(rt, sent.map(Framed))
+    }
+
+    // Channel 2 is flushed into staged.
+    fn flush_two(&mut self, rt: &impl Print) -> io::Result<()> {
+        let flushed = pending::flush_pending(
+            &mut self.table,
+            &mut self.queue,
+            &mut self.staged,
+            &self.sent,
+            ChannelId(2),
+        );
+        show(rt, flushed.map(Flushed))?;
+        println!(rt)
+    }
+
+    // Data queued on channels 2 and 3, which are opened for it, then channel 2 flushed: every byte of both buffers.
+    fn queue_and_flush(&mut self, rt: &impl Print, data: &[(u32, &[u8])]) -> io::Result<()> {
+        self.open_at(rt, &[2, 3])?;
+        for (n, bytes) in data {
+            self.put(rt, *n, bytes, true)?;
+        }
+        self.flush_two(rt)?;
+        show_bytes(rt, &self.staged)?;
+        show_bytes(rt, &self.queue)
+    }
 }
 
 // The 33rd opening is refused, of every kind; and a used number is refused first.
 fn full_table(rt: &impl Print) -> io::Result<()> {
+    let mut lent = Lent::<8, 8>::new(Table::new());
     print!(rt; "33 openings:")?;
-    let full = open_many(rt, Table::new(), 33)?;
+    lent.open_many(rt, 33)?;
     print!(rt; "a number alone:")?;
-    let lent = [0u8; 8];
-    let o = numbers::new_channel_id(full, &lent, &lent, &lent);
-    let answer = o.answer;
-    show_picked(rt, answer)?;
-    line(rt)?;
-    print!(rt; "for the peer at 34, at 33:")?;
-    let same = open_at(rt, full, 34)?;
-    let _ = open_at(rt, same, 33)?;
-    line(rt)
+    lent.pick(rt)?;
+    print!(rt; "\nfor the peer at 34, at 33:")?;
+    lent.open_at(rt, &[34, 33])?;
+    println!(rt)
 }
 
 // Numbers go round at 2^32 and pass over those in use; a number picked alone is not given again at once.
 fn numbers_go_round(rt: &impl Print) -> io::Result<()> {
     print!(rt; "from 4294967294, with 4294967295 and 1 in use:")?;
-    let mut t = Table::new();
-    t.last = 4294967294;
-    let one = open_at(rt, t, 4294967295)?;
-    let two = open_at(rt, one, 1)?;
-    let three = open_many(rt, two, 3)?;
+    let mut table = Table::new();
+    table.last = 4294967294;
+    let mut lent = Lent::<8, 8>::new(table);
+    lent.open_at(rt, &[4294967295, 1])?;
+    lent.open_many(rt, 3)?;
     print!(rt; "a number alone, then an opening:")?;
-    let lent = [0u8; 8];
-    let o = numbers::new_channel_id(three, &lent, &lent, &lent);
-    let answer = o.answer;
-    show_picked(rt, answer)?;
-    let next = o.table;
-    let _ = open_many(rt, next, 1)?;
-    Ok(())
+    lent.pick(rt)?;
+    lent.open_many(rt, 1)
 }
 
 // A state that is not sound is refused: a used place with a number that another has.
 fn unsound(rt: &impl Print) -> io::Result<()> {
     print!(rt; "two records of one number:")?;
-    let mut t = Table::new();
-    t.used = 3;
-    let _ = open_many(rt, t, 1)?;
-    Ok(())
+    let mut table = Table::new();
+    table.used = 3;
+    Lent::<8, 8>::new(table).open_many(rt, 1)
 }
 
-// Data on channel 2 with the peer's window 5 and limit 3, over buffers that the caller lends.
-fn send_on_two(
-    rt: &impl Print,
-    queue: &mut [u8],
-    staged: &mut [u8],
-    bytes: &[u8],
-) -> io::Result<()> {
-    let t = open_at(rt, Table::new(), 2)?;
-    let sent = [0u8; 8];
-    let o = sending::data(t, queue, staged, &sent, ChannelId(2), bytes, false);
-    let answer = o.answer;
-    show_sent(rt, answer)?;
-    line(rt)
+// Data on channel 2 with the peer's window 5 and limit 3, and the buffers that it leaves.
+fn sent_on_two<const STAGED: usize>(rt: &impl Print, bytes: &[u8]) -> io::Result<Lent<8, STAGED>> {
+    let mut lent = Lent::new(Table::new());
+    lent.open_at(rt, &[2])?;
+    lent.put(rt, 2, bytes, false)?;
+    println!(rt)?;
+    Ok(lent)
 }
 
 // Packets of 3 and 2, frames of 31 bytes in all, 3 bytes queued: every byte of both buffers.
 fn window_five(rt: &impl Print) -> io::Result<()> {
     print!(rt; "window 5, limit 3, 8 bytes:")?;
-    let mut queue = [0u8; 8];
-    let mut staged = [0u8; 40];
-    send_on_two(rt, &mut queue, &mut staged, b"abcdefgh")?;
+    let lent = sent_on_two::<40>(rt, b"abcdefgh")?;
     print!(rt; "staged: ")?;
-    show_bytes(rt, &staged)?;
+    show_bytes(rt, &lent.staged)?;
     print!(rt; "queue: ")?;
-    show_bytes(rt, &queue)
+    show_bytes(rt, &lent.queue)
 }
 
 // A 3-byte plain packet takes 16 bytes.
 fn room_for_three(rt: &impl Print) -> io::Result<()> {
-    let mut queue = [0u8; 8];
-    let mut fifteen = [0u8; 15];
-    let mut sixteen = [0u8; 16];
     print!(rt; "3 bytes, 15 free in staged:")?;
-    send_on_two(rt, &mut queue, &mut fifteen, b"abc")?;
-    show_bytes(rt, &fifteen)?;
+    show_bytes(rt, &sent_on_two::<15>(rt, b"abc")?.staged)?;
     print!(rt; "3 bytes, 16 free in staged:")?;
-    send_on_two(rt, &mut queue, &mut sixteen, b"abc")?;
-    show_bytes(rt, &sixteen)
-}
-
-// Data queued during rekey.
-fn put_by(rt: &impl Print, t: Table, queue: &mut [u8], n: u32, bytes: &[u8]) -> io::Result<Table> {
-    let mut staged = [0u8; 8];
-    let sent = [0u8; 8];
-    let o = sending::data(t, queue, &mut staged, &sent, ChannelId(n), bytes, true);
-    let answer = o.answer;
-    show_sent(rt, answer)?;
-    let next = o.table;
-    Ok(next)
-}
-
-// Channel 2 is flushed into staged.
-fn flush_two(rt: &impl Print, t: Table, queue: &mut [u8], staged: &mut [u8]) -> io::Result<Table> {
-    let sent = [0u8; 8];
-    let o = pending::flush_pending(t, queue, staged, &sent, ChannelId(2));
-    let answer = o.answer;
-    show_flush(rt, answer)?;
-    line(rt)?;
-    let next = o.table;
-    Ok(next)
-}
-
-// Channels 2 and 3, each with the peer's window 5 and limit 3.
-fn open_two(rt: &impl Print) -> io::Result<Table> {
-    let t = open_at(rt, Table::new(), 2)?;
-    open_at(rt, t, 3)
+    show_bytes(rt, &sent_on_two::<16>(rt, b"abc")?.staged)
 }
 
 // Entries of two channels in turn, and an empty one between two others.
 fn in_turn(rt: &impl Print) -> io::Result<()> {
     print!(rt; "2 ab, 3 xy, 2 nothing, 2 cde, 3 z:")?;
-    let mut queue = [0u8; 12];
-    let mut staged = [0u8; 40];
-    let a = put_by(rt, open_two(rt)?, &mut queue, 2, b"ab")?;
-    let b = put_by(rt, a, &mut queue, 3, b"xy")?;
-    let c = put_by(rt, b, &mut queue, 2, b"")?;
-    let d = put_by(rt, c, &mut queue, 2, b"cde")?;
-    let e = put_by(rt, d, &mut queue, 3, b"z")?;
-    let _ = flush_two(rt, e, &mut queue, &mut staged)?;
-    show_bytes(rt, &staged)?;
-    show_bytes(rt, &queue)
+    Lent::<12, 40>::new(Table::new()).queue_and_flush(
+        rt,
+        &[
+            (2, b"ab".as_slice()),
+            (3, b"xy".as_slice()),
+            (2, b"".as_slice()),
+            (2, b"cde".as_slice()),
+            (3, b"z".as_slice()),
+        ],
+    )
 }
 
 // The window ends inside the second entry.
 fn window_ends(rt: &impl Print) -> io::Result<()> {
     print!(rt; "2 abcd, 3 x, 2 efg:")?;
-    let mut queue = [0u8; 12];
-    let mut staged = [0u8; 48];
-    let a = put_by(rt, open_two(rt)?, &mut queue, 2, b"abcd")?;
-    let b = put_by(rt, a, &mut queue, 3, b"x")?;
-    let c = put_by(rt, b, &mut queue, 2, b"efg")?;
-    let _ = flush_two(rt, c, &mut queue, &mut staged)?;
-    show_bytes(rt, &staged)?;
-    show_bytes(rt, &queue)
+    Lent::<12, 48>::new(Table::new()).queue_and_flush(
+        rt,
+        &[
+            (2, b"abcd".as_slice()),
+            (3, b"x".as_slice()),
+            (2, b"efg".as_slice()),
+        ],
+    )
 }
 
 // The whole queue is freed.
 fn all_freed(rt: &impl Print) -> io::Result<()> {
     print!(rt; "2 abc, in a queue of 3:")?;
-    let mut queue = [0u8; 3];
-    let mut staged = [0u8; 16];
-    let a = put_by(rt, open_two(rt)?, &mut queue, 2, b"abc")?;
-    let _ = flush_two(rt, a, &mut queue, &mut staged)?;
-    show_bytes(rt, &staged)?;
-    show_bytes(rt, &queue)
+    Lent::<3, 16>::new(Table::new()).queue_and_flush(rt, &[(2, b"abc".as_slice())])
 }
 
-// An empty entry on channel 2: it takes no byte of the queue.
-fn put_nothing(rt: &impl Print, t: Table) -> io::Result<Table> {
-    let mut queue = [0u8; 1];
-    put_by(rt, t, &mut queue, 2, b"")
-}
-
-// n of them.
-fn put_empty(rt: &impl Print, start: Table, n: u32) -> io::Result<Table> {
-    let mut t = start;
-    for _ in 0..n {
-        t = put_nothing(rt, t)?;
-    }
-    line(rt)?;
-    Ok(t)
-}
-
-// 64 entries, and none more; a flush takes them all.
+// 64 empty entries on channel 2, and none more; a flush takes them all, and no byte of either buffer.
 fn most_entries(rt: &impl Print) -> io::Result<()> {
     print!(rt; "65 empty entries:")?;
-    let full = put_empty(rt, open_two(rt)?, 65)?;
-    print!(rt; "flushed, and one more entry:")?;
-    let mut queue = [0u8; 1];
-    let mut staged = [0u8; 1];
-    let none = flush_two(rt, full, &mut queue, &mut staged)?;
-    let _ = put_nothing(rt, none)?;
-    line(rt)
+    let mut lent = Lent::<1, 1>::new(Table::new());
+    lent.open_at(rt, &[2, 3])?;
+    for _ in 0..65 {
+        lent.put(rt, 2, b"", true)?;
+    }
+    print!(rt; "\nflushed, and one more entry:")?;
+    lent.flush_two(rt)?;
+    lent.put(rt, 2, b"", true)?;
+    println!(rt)
 }
 
 fn main(rt: HostRuntime) -> io::Result<()> {

@@ -2,30 +2,23 @@
 -- Assumes nothing.
 use Prim.Native.Nat.{ℕ}
 use mathlib.Core.Path.{◌≡◌, refl, sym, ap, ap₂, ◌∙◌}
-use mathlib.Core.Bool.{true, false}
+use mathlib.Core.Bool.{Bool, true, false}
 use lib.Dec.{eqb}
+use Rattle.std.specs.Prelude.{Result, Ok, Err}
 use native.Mathlib.Omega.{arith}
 use Rattle.channel.specs.declared.ChannelId.{ChannelId}
 use Rattle.channel.specs.declared.Refusal.{Refusal}
 use Rattle.channel.specs.declared.Message as M
 use Rattle.channel.specs.declared.Message.TheVariants as Message
-use Rattle.channel.specs.declared.Picked.{Picked}
-use Rattle.channel.specs.declared.Acted.{Acted}
-use Rattle.channel.specs.declared.Sent.{Sent}
-use Rattle.channel.specs.declared.Charged.{Charged}
 use Rattle.channel.specs.declared.Completed.{Completed}
 use Rattle.channel.specs.declared.ChannelFlushResult.{ChannelFlushResult}
-use Rattle.channel.specs.declared.ChannelFlushResult.TheVariants as Flush
-use Rattle.channel.specs.declared.AllFlushed.{AllFlushed}
-use Rattle.channel.specs.declared.AllFlushed.TheVariants as FlushAll
+use Rattle.channel.specs.declared.ChannelFlushResult.TheVariants.{Incomplete, Complete}
+use Rattle.channel.specs.declared.Stopped.{Stopped}
+use Rattle.channel.specs.declared.Stopped.TheVariants as Stop
 use Rattle.channel.specs.declared.Moved.{Moved}
-use Rattle.channel.specs.declared.Taken.{Taken}
-use Rattle.channel.specs.declared.WindowSize.{WindowSize}
-use Rattle.channel.specs.declared.WindowSize.TheVariants as Window
-use Rattle.channel.specs.declared.PendingData.{PendingData}
-use Rattle.channel.specs.declared.PendingData.TheVariants as Pending
+use Rattle.channel.specs.declared.Moved.TheVariants.{Held, Run}
 use Rattle.channel.specs.Call as C
-use Rattle.channel.specs.Answers.{refusal_number, refusal, message_of, picked, acted, sent, charged, flushed, all_flushed, moved, taken, window_size, pending_data}
+use Rattle.channel.specs.Answers.{refusal_number, refusal, message_of, answer, flush_is, move_is, picked, acted, sent, charged, flushed, all_flushed, moved, taken, window_size, pending_data}
 
 -- the refusal with a number, and back
 refusal_of : ℕ → Refusal
@@ -93,99 +86,85 @@ gave-refusal : {A : Type 0} (r : C.Result) (k : Refusal) → C.gave r ≡ refusa
 unfolding refusal
 gave-refusal r k e = absurd (let z : ◌≡◌ {A = ℕ} 0 1 = cc in omega arith)
 
--- THE THEOREMS, one for each enum
+-- what a call gives is told apart, and from every refusal
+answer_one : {A : Type 0} (f : A → C.Answer) → ((a b : A) → f a ≡ f b → a ≡ b) → ((a : A) (k : Refusal) → f a ≡ refusal k → ⊥) → (a b : Result A Refusal) → answer f a ≡ answer f b → a ≡ b
+unfolding answer
+answer_one f one apart (Ok a) (Ok b) e = ap Ok (one a b e)
+answer_one f one apart (Ok a) (Err k) e = absurd (apart a k e)
+answer_one f one apart (Err k) (Ok b) e = absurd (apart b k (sym e))
+answer_one f one apart (Err k) (Err j) e = ap Err (refusal_one k j e)
 
-pub picked_one : (a b : Picked) → picked a ≡ picked b → a ≡ b
-unfolding picked
-picked_one (Picked.Number n) (Picked.Number m) e = let z : n.0 ≡ m.0 = cc in ap Picked.Number (id_one n m z)
-picked_one (Picked.Number n) (Picked.Refused k) e = gave-refusal _ k e
-picked_one (Picked.Refused k) (Picked.Number m) e = gave-refusal _ k (sym e)
-picked_one (Picked.Refused k) (Picked.Refused j) e = ap Picked.Refused (refusal_one k j e)
+-- THE THEOREMS, one for each kind of call
 
-pub acted_one : (a b : Acted) → acted a ≡ acted b → a ≡ b
-unfolding acted
-acted_one Acted.Done Acted.Done e = refl
-acted_one Acted.Done (Acted.Refused k) e = gave-refusal _ k e
-acted_one (Acted.Refused k) Acted.Done e = gave-refusal _ k (sym e)
-acted_one (Acted.Refused k) (Acted.Refused j) e = ap Acted.Refused (refusal_one k j e)
+pub picked_one : (a b : Result ChannelId Refusal) → picked a ≡ picked b → a ≡ b
+picked_one = answer_one _ (λ n m e. id_one n m cc) (λ n k e. gave-refusal _ k e)
 
-pub sent_one : (a b : Sent) → sent a ≡ sent b → a ≡ b
-unfolding sent
-sent_one (Sent.Framed n) (Sent.Framed m) e = let z : n ≡ m = cc in ap Sent.Framed z
-sent_one (Sent.Framed n) (Sent.Refused k) e = gave-refusal _ k e
-sent_one (Sent.Refused k) (Sent.Framed m) e = gave-refusal _ k (sym e)
-sent_one (Sent.Refused k) (Sent.Refused j) e = ap Sent.Refused (refusal_one k j e)
+pub acted_one : (a b : Result (Unit {0}) Refusal) → acted a ≡ acted b → a ≡ b
+acted_one = answer_one _ (λ n m e. refl) (λ n k e. gave-refusal _ k e)
 
-pub charged_one : (a b : Charged) → charged a ≡ charged b → a ≡ b
-unfolding charged
-charged_one (Charged.Adjusted n) (Charged.Adjusted m) e = let z : n ≡ m = cc in ap Charged.Adjusted z
-charged_one (Charged.Adjusted n) (Charged.Refused k) e = gave-refusal _ k e
-charged_one (Charged.Refused k) (Charged.Adjusted m) e = gave-refusal _ k (sym e)
-charged_one (Charged.Refused k) (Charged.Refused j) e = ap Charged.Refused (refusal_one k j e)
+pub sent_one : (a b : Result ℕ Refusal) → sent a ≡ sent b → a ≡ b
+sent_one = answer_one _ (λ n m e. cc) (λ n k e. gave-refusal _ k e)
+
+pub charged_one : (a b : Result Bool Refusal) → charged a ≡ charged b → a ≡ b
+charged_one = answer_one _ (λ n m e. cc) (λ n k e. gave-refusal _ k e)
 
 completed_one : (n m : Completed) → n.wrote ≡ m.wrote → n.pending_eof ≡ m.pending_eof → n.pending_close ≡ m.pending_close → n ≡ m
 completed_one n m e f g = λ i. record { wrote = e i; pending_eof = f i; pending_close = g i }
 
-pub flushed_one : (a b : ChannelFlushResult) → flushed a ≡ flushed b → a ≡ b
-unfolding flushed
-flushed_one (Flush.Incomplete n) (Flush.Incomplete m) e = let z : n ≡ m = cc in ap Flush.Incomplete z
-flushed_one (Flush.Incomplete n) (Flush.Complete m) e = absurd (let z : ◌≡◌ {A = ℕ} 0 1 = cc in omega arith)
-flushed_one (Flush.Incomplete n) (Flush.Refused k) e = gave-refusal _ k e
-flushed_one (Flush.Complete n) (Flush.Incomplete m) e = absurd (let z : ◌≡◌ {A = ℕ} 0 1 = cc in omega arith)
-flushed_one (Flush.Complete n) (Flush.Complete m) e =
+flush_one : (a b : ChannelFlushResult) → flush_is a ≡ flush_is b → a ≡ b
+unfolding flush_is
+flush_one (Incomplete n) (Incomplete m) e = let z : n ≡ m = cc in ap Incomplete z
+flush_one (Incomplete n) (Complete m) e = absurd (let z : ◌≡◌ {A = ℕ} 0 1 = cc in omega arith)
+flush_one (Complete n) (Incomplete m) e = absurd (let z : ◌≡◌ {A = ℕ} 0 1 = cc in omega arith)
+flush_one (Complete n) (Complete m) e =
     let x : n.wrote ≡ m.wrote = cc in
     let y : n.pending_eof ≡ m.pending_eof = cc in
     let z : n.pending_close ≡ m.pending_close = cc in
-    ap Flush.Complete (completed_one n m x y z)
-flushed_one (Flush.Complete n) (Flush.Refused k) e = gave-refusal _ k e
-flushed_one (Flush.Refused k) (Flush.Incomplete m) e = gave-refusal _ k (sym e)
-flushed_one (Flush.Refused k) (Flush.Complete m) e = gave-refusal _ k (sym e)
-flushed_one (Flush.Refused k) (Flush.Refused j) e = ap Flush.Refused (refusal_one k j e)
+    ap Complete (completed_one n m x y z)
 
-pub all-flushed_one : (a b : AllFlushed) → all_flushed a ≡ all_flushed b → a ≡ b
+flush_apart : (a : ChannelFlushResult) (k : Refusal) → flush_is a ≡ refusal k → ⊥
+unfolding flush_is
+flush_apart (Incomplete n) k e = gave-refusal _ k e
+flush_apart (Complete m) k e = gave-refusal _ k e
+
+pub flushed_one : (a b : Result ChannelFlushResult Refusal) → flushed a ≡ flushed b → a ≡ b
+flushed_one = answer_one flush_is flush_one flush_apart
+
+pub all-flushed_one : (a b : Result (Unit {0}) Stopped) → all_flushed a ≡ all_flushed b → a ≡ b
 unfolding all_flushed refusal
-all-flushed_one FlushAll.Done FlushAll.Done e = refl
-all-flushed_one FlushAll.Done (FlushAll.Stopped n k) e = absurd (let z : ◌≡◌ {A = ℕ} 0 1 = cc in omega arith)
-all-flushed_one FlushAll.Done (FlushAll.Refused k) e = absurd (let z : ◌≡◌ {A = ℕ} 0 1 = cc in omega arith)
-all-flushed_one (FlushAll.Stopped n k) FlushAll.Done e = absurd (let z : ◌≡◌ {A = ℕ} 0 1 = cc in omega arith)
-all-flushed_one (FlushAll.Stopped n k) (FlushAll.Stopped m j) e =
+all-flushed_one (Ok u) (Ok v) e = refl
+all-flushed_one (Ok u) (Err (Stop.At n k)) e = absurd (let z : ◌≡◌ {A = ℕ} 0 1 = cc in omega arith)
+all-flushed_one (Ok u) (Err (Stop.Refused k)) e = absurd (let z : ◌≡◌ {A = ℕ} 0 1 = cc in omega arith)
+all-flushed_one (Err (Stop.At n k)) (Ok u) e = absurd (let z : ◌≡◌ {A = ℕ} 0 1 = cc in omega arith)
+all-flushed_one (Err (Stop.At n k)) (Err (Stop.At m j)) e =
     let y : n.0 ≡ m.0 = cc in
     let z : refusal_number k ≡ refusal_number j = cc in
-    ap₂ FlushAll.Stopped (id_one n m y) (number_one k j z)
-all-flushed_one (FlushAll.Stopped n k) (FlushAll.Refused j) e = absurd (let z : ◌≡◌ {A = ℕ} 0 1 = cc in omega arith)
-all-flushed_one (FlushAll.Refused k) FlushAll.Done e = absurd (let z : ◌≡◌ {A = ℕ} 0 1 = cc in omega arith)
-all-flushed_one (FlushAll.Refused k) (FlushAll.Stopped m j) e = absurd (let z : ◌≡◌ {A = ℕ} 0 1 = cc in omega arith)
-all-flushed_one (FlushAll.Refused k) (FlushAll.Refused j) e = ap FlushAll.Refused (unfold refusal in refusal_one k j e)
+    ap Err (ap₂ Stop.At (id_one n m y) (number_one k j z))
+all-flushed_one (Err (Stop.At n k)) (Err (Stop.Refused j)) e = absurd (let z : ◌≡◌ {A = ℕ} 0 1 = cc in omega arith)
+all-flushed_one (Err (Stop.Refused k)) (Ok u) e = absurd (let z : ◌≡◌ {A = ℕ} 0 1 = cc in omega arith)
+all-flushed_one (Err (Stop.Refused k)) (Err (Stop.At m j)) e = absurd (let z : ◌≡◌ {A = ℕ} 0 1 = cc in omega arith)
+all-flushed_one (Err (Stop.Refused k)) (Err (Stop.Refused j)) e = ap Err (ap Stop.Refused (unfold refusal in refusal_one k j e))
 
-pub moved_one : (a b : Moved) → moved a ≡ moved b → a ≡ b
-unfolding moved refusal
-moved_one Moved.Held Moved.Held e = refl
-moved_one Moved.Held (Moved.Run n m) e = absurd (let z : ◌≡◌ {A = ℕ} 0 1 = cc in omega arith)
-moved_one Moved.Held (Moved.Refused k) e = absurd (let z : ◌≡◌ {A = ℕ} 0 1 = cc in omega arith)
-moved_one (Moved.Run n m) Moved.Held e = absurd (let z : ◌≡◌ {A = ℕ} 0 1 = cc in omega arith)
-moved_one (Moved.Run n m) (Moved.Run i j) e = let y : n ≡ i = cc in let z : m ≡ j = cc in ap₂ Moved.Run y z
-moved_one (Moved.Run n m) (Moved.Refused k) e = absurd (let z : ◌≡◌ {A = ℕ} 0 1 = cc in omega arith)
-moved_one (Moved.Refused k) Moved.Held e = absurd (let z : ◌≡◌ {A = ℕ} 0 1 = cc in omega arith)
-moved_one (Moved.Refused k) (Moved.Run n m) e = absurd (let z : ◌≡◌ {A = ℕ} 0 1 = cc in omega arith)
-moved_one (Moved.Refused k) (Moved.Refused j) e = ap Moved.Refused (unfold refusal in refusal_one k j e)
+move_one : (a b : Moved) → move_is a ≡ move_is b → a ≡ b
+unfolding move_is
+move_one Held Held e = refl
+move_one Held (Run n m) e = absurd (let z : ◌≡◌ {A = ℕ} 0 1 = cc in omega arith)
+move_one (Run n m) Held e = absurd (let z : ◌≡◌ {A = ℕ} 0 1 = cc in omega arith)
+move_one (Run n m) (Run i j) e = let y : n ≡ i = cc in let z : m ≡ j = cc in ap₂ Run y z
 
-pub taken_one : (a b : Taken) → taken a ≡ taken b → a ≡ b
-unfolding taken
-taken_one (Taken.Took n) (Taken.Took m) e = let z : message_of n ≡ message_of m = cc in ap Taken.Took (message_one n m z)
-taken_one (Taken.Took n) (Taken.Refused k) e = gave-refusal _ k e
-taken_one (Taken.Refused k) (Taken.Took m) e = gave-refusal _ k (sym e)
-taken_one (Taken.Refused k) (Taken.Refused j) e = ap Taken.Refused (refusal_one k j e)
+move_apart : (a : Moved) (k : Refusal) → move_is a ≡ refusal k → ⊥
+unfolding move_is refusal
+move_apart Held k e = let z : ◌≡◌ {A = ℕ} 0 1 = cc in omega arith
+move_apart (Run n m) k e = let z : ◌≡◌ {A = ℕ} 0 1 = cc in omega arith
 
-pub window_size_one : (a b : WindowSize) → window_size a ≡ window_size b → a ≡ b
-unfolding window_size
-window_size_one (Window.Window n) (Window.Window m) e = let z : n ≡ m = cc in ap Window.Window z
-window_size_one (Window.Window n) (Window.Refused k) e = gave-refusal _ k e
-window_size_one (Window.Refused k) (Window.Window m) e = gave-refusal _ k (sym e)
-window_size_one (Window.Refused k) (Window.Refused j) e = ap Window.Refused (refusal_one k j e)
+pub moved_one : (a b : Result Moved Refusal) → moved a ≡ moved b → a ≡ b
+moved_one = answer_one move_is move_one move_apart
 
-pub pending-data_one : (a b : PendingData) → pending_data a ≡ pending_data b → a ≡ b
-unfolding pending_data
-pending-data_one (Pending.Pending n) (Pending.Pending m) e = let z : n ≡ m = cc in ap Pending.Pending z
-pending-data_one (Pending.Pending n) (Pending.Refused k) e = gave-refusal _ k e
-pending-data_one (Pending.Refused k) (Pending.Pending m) e = gave-refusal _ k (sym e)
-pending-data_one (Pending.Refused k) (Pending.Refused j) e = ap Pending.Refused (refusal_one k j e)
+pub taken_one : (a b : Result M.Message Refusal) → taken a ≡ taken b → a ≡ b
+taken_one = answer_one _ (λ n m e. message_one n m cc) (λ n k e. gave-refusal _ k e)
+
+pub window_size_one : (a b : Result ℕ Refusal) → window_size a ≡ window_size b → a ≡ b
+window_size_one = answer_one _ (λ n m e. cc) (λ n k e. gave-refusal _ k e)
+
+pub pending-data_one : (a b : Result Bool Refusal) → pending_data a ≡ pending_data b → a ≡ b
+pending-data_one = answer_one _ (λ n m e. cc) (λ n k e. gave-refusal _ k e)

@@ -1,23 +1,16 @@
--- The rules' number and values for each case of the enums that the calls answer.
+-- The rules' number and values for what the calls answer.
 -- Assumes nothing.
-use Rattle.std.specs.Prelude.{ℕ}
+use Rattle.std.specs.Prelude.{ℕ, Bool, Result, Ok, Err}
 use Rattle.channel.specs.declared.Refusal.{Refusal}
 use Rattle.channel.specs.declared.Message as M
 use Rattle.channel.specs.declared.Message.TheVariants as Message
-use Rattle.channel.specs.declared.Picked.{Picked}
-use Rattle.channel.specs.declared.Acted.{Acted}
-use Rattle.channel.specs.declared.Sent.{Sent}
-use Rattle.channel.specs.declared.Charged.{Charged}
+use Rattle.channel.specs.declared.ChannelId.{ChannelId}
 use Rattle.channel.specs.declared.ChannelFlushResult.{ChannelFlushResult}
-use Rattle.channel.specs.declared.ChannelFlushResult.TheVariants as Flush
-use Rattle.channel.specs.declared.AllFlushed.{AllFlushed}
-use Rattle.channel.specs.declared.AllFlushed.TheVariants as FlushAll
+use Rattle.channel.specs.declared.ChannelFlushResult.TheVariants.{Incomplete, Complete}
+use Rattle.channel.specs.declared.Stopped.{Stopped}
+use Rattle.channel.specs.declared.Stopped.TheVariants as Stop
 use Rattle.channel.specs.declared.Moved.{Moved}
-use Rattle.channel.specs.declared.Taken.{Taken}
-use Rattle.channel.specs.declared.WindowSize.{WindowSize}
-use Rattle.channel.specs.declared.WindowSize.TheVariants as Window
-use Rattle.channel.specs.declared.PendingData.{PendingData}
-use Rattle.channel.specs.declared.PendingData.TheVariants as Pending
+use Rattle.channel.specs.declared.Moved.TheVariants.{Held, Run}
 use Rattle.channel.specs.Call as C
 
 -- docs/RULES.md, "Answer numbers"
@@ -43,54 +36,65 @@ message_of (Message.Data m) = C.received m.recipient.0 m.kind m.text.start m.tex
 message_of (Message.Eof n) = C.ended n.0
 message_of (Message.Close n) = C.closed n.0
 
+-- whom a message is for
+unfoldable pub to_whom : M.Message → ℕ
+to_whom (Message.OpenConfirmation m) = m.recipient.0
+to_whom (Message.OpenFailure m) = m.recipient.0
+to_whom (Message.WindowAdjust m) = m.recipient.0
+to_whom (Message.Data m) = m.recipient.0
+to_whom (Message.Eof n) = n.0
+to_whom (Message.Close n) = n.0
+
+-- what a call gives, or why it is refused
+unfoldable pub answer : {A : Type 0} → (A → C.Answer) → Result A Refusal → C.Answer
+answer f (Ok a) = f a
+answer f (Err k) = refusal k
+
 -- new_channel, new_channel_id
-unfoldable pub picked : Picked → C.Answer
-picked (Picked.Number n) = C.gave (C.number n.0)
-picked (Picked.Refused k) = refusal k
+abbrev pub picked : Result ChannelId Refusal → C.Answer
+picked r = answer (λ n. C.gave (C.number n.0)) r
 
 -- open_for_peer, eof, close, drain
-unfoldable pub acted : Acted → C.Answer
-acted Acted.Done = C.gave C.done
-acted (Acted.Refused k) = refusal k
+abbrev pub acted : Result (Unit {0}) Refusal → C.Answer
+acted r = answer (λ u. C.gave C.done) r
 
--- the data calls
-unfoldable pub sent : Sent → C.Answer
-sent (Sent.Framed n) = C.gave (C.framed n)
-sent (Sent.Refused k) = refusal k
+-- the data calls: the bytes framed now
+abbrev pub sent : Result ℕ Refusal → C.Answer
+sent r = answer (λ n. C.gave (C.framed n)) r
 
--- adjust_window_size
-unfoldable pub charged : Charged → C.Answer
-charged (Charged.Adjusted b) = C.gave (C.adjusted b)
-charged (Charged.Refused k) = refusal k
+-- adjust_window_size: whether an adjust was staged
+abbrev pub charged : Result Bool Refusal → C.Answer
+charged r = answer (λ b. C.gave (C.adjusted b)) r
 
 -- the pending flush of one channel
-unfoldable pub flushed : ChannelFlushResult → C.Answer
-flushed (Flush.Incomplete n) = C.gave (C.incomplete n)
-flushed (Flush.Complete m) = C.gave (C.complete m.wrote m.pending_eof m.pending_close)
-flushed (Flush.Refused k) = refusal k
+unfoldable pub flush_is : ChannelFlushResult → C.Answer
+flush_is (Incomplete n) = C.gave (C.incomplete n)
+flush_is (Complete m) = C.gave (C.complete m.wrote m.pending_eof m.pending_close)
+
+abbrev pub flushed : Result ChannelFlushResult Refusal → C.Answer
+flushed r = answer flush_is r
 
 -- and of all
-unfoldable pub all_flushed : AllFlushed → C.Answer
-all_flushed FlushAll.Done = C.gave C.done
-all_flushed (FlushAll.Stopped n k) = C.stopped n.0 (refusal_number k)
-all_flushed (FlushAll.Refused k) = refusal k
+unfoldable pub all_flushed : Result (Unit {0}) Stopped → C.Answer
+all_flushed (Ok u) = C.gave C.done
+all_flushed (Err (Stop.At n k)) = C.stopped n.0 (refusal_number k)
+all_flushed (Err (Stop.Refused k)) = refusal k
 
 -- the staged flush
-unfoldable pub moved : Moved → C.Answer
-moved Moved.Held = C.gave C.held
-moved (Moved.Run frames bytes) = C.moved frames bytes
-moved (Moved.Refused k) = refusal k
+unfoldable pub move_is : Moved → C.Answer
+move_is Held = C.gave C.held
+move_is (Run frames bytes) = C.moved frames bytes
+
+abbrev pub moved : Result Moved Refusal → C.Answer
+moved r = answer move_is r
 
 -- incoming
-unfoldable pub taken : Taken → C.Answer
-taken (Taken.Took m) = C.gave (C.message (message_of m))
-taken (Taken.Refused k) = refusal k
+abbrev pub taken : Result M.Message Refusal → C.Answer
+taken r = answer (λ m. C.gave (C.message (message_of m))) r
 
 -- the queries
-unfoldable pub window_size : WindowSize → C.Answer
-window_size (Window.Window n) = C.gave (C.window_is n)
-window_size (Window.Refused k) = refusal k
+abbrev pub window_size : Result ℕ Refusal → C.Answer
+window_size r = answer (λ n. C.gave (C.window_is n)) r
 
-unfoldable pub pending_data : PendingData → C.Answer
-pending_data (Pending.Pending b) = C.gave (C.pending_is b)
-pending_data (Pending.Refused k) = refusal k
+abbrev pub pending_data : Result Bool Refusal → C.Answer
+pending_data r = answer (λ b. C.gave (C.pending_is b)) r

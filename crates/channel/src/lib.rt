@@ -2,23 +2,27 @@
 
 #![tactic(auto)]
 
-ghost use Rattle.std.specs.Prelude.{◌≡◌};
+ghost use Rattle.std.specs.Prelude.{◌≡◌, ◌<◌, length};
+ghost use Rattle.channel.specs.declared.Stopped.TheVariants.{Refused};
 ghost use Rattle.channel.specs.State as S;
+ghost use Rattle.channel.specs.State.{place_count, most_entries, numbers_in_all};
 ghost use Rattle.channel.specs.Raw.{empty_table, zero_record, zero_entry};
+ghost use Rattle.channel.specs.Called.{AllBytes, Typed, lent};
+ghost use Rattle.channel.specs.Answers.{refusal_number, to_whom};
 
 // A channel's number at this end.
 #[repr(C)]
-#[derive(Clone, Copy)]
+#[derive(Debug, Clone, Copy, PartialEq, Eq, PartialOrd, Ord)]
 pub struct ChannelId(pub u32);
 
 // A channel's number at the peer's end.
 #[repr(C)]
-#[derive(Clone, Copy)]
+#[derive(Debug, Clone, Copy, PartialEq, Eq)]
 pub struct PeerNumber(pub u32);
 
 // One channel: the fields of `ChannelParams` less its queue.
 #[repr(C)]
-#[derive(Clone, Copy)]
+#[derive(Clone, Copy, PartialEq, Eq)]
 pub struct Record {
     pub recipient_channel: PeerNumber,
     pub sender_channel: ChannelId,
@@ -42,7 +46,7 @@ pub enum Kind {
 // Which data an entry holds, in numbers, so that a table can stand in an exported type: plain, or extended with a code. Of plain data the
 // code is not looked at; the calls store 0.
 #[repr(C)]
-#[derive(Clone, Copy)]
+#[derive(Clone, Copy, PartialEq, Eq)]
 pub struct StoredKind {
     pub extended: bool,
     pub code: u32,
@@ -50,14 +54,15 @@ pub struct StoredKind {
 
 // One pending entry; its bytes stand in the lent queue.
 #[repr(C)]
-#[derive(Clone, Copy)]
+#[derive(Clone, Copy, PartialEq, Eq)]
 pub struct Entry {
     pub number: ChannelId,
     pub kind: StoredKind,
     pub left: u32,
 }
 
-// The whole table: bit i of `used` says whether place i holds a record. The counts are those of the three lent buffers.
+// The whole table: bit i of `used` says whether place i holds a record. The counts are those of the three lent buffers. Arrays with a word or
+// a count beside them, and not maps and vectors: the table has a fixed size, no heap, and the layout that C passes.
 #[repr(C)]
 #[derive(Clone, Copy)]
 pub struct Table {
@@ -122,8 +127,24 @@ pub enum Message {
     Close(ChannelId),
 }
 
+impl Message {
+    // The number of the channel that it is for.
+    #[tactic(auto, unfolding(crate::specs::Answers::to_whom))]
+    pub fn recipient(&self) -> ChannelId
+        ensures { result.0 ≡ to_whom self.now }
+    {
+        match *self {
+            Message::OpenConfirmation(m) => m.recipient,
+            Message::OpenFailure(m) => m.recipient,
+            Message::WindowAdjust(m) => m.recipient,
+            Message::Data(m) => m.recipient,
+            Message::Eof(n) | Message::Close(n) => n,
+        }
+    }
+}
+
 // Why a call is refused: the rules' answers 1 to 8, in their order.
-#[derive(Clone, Copy)]
+#[derive(Debug, Clone, Copy, PartialEq, Eq)]
 pub enum Refusal {
     State,
     Unknown,
@@ -135,32 +156,23 @@ pub enum Refusal {
     Already,
 }
 
-// What `new_channel` and `new_channel_id` answer.
-#[derive(Clone, Copy)]
-pub enum Picked {
-    Number(ChannelId),
-    Refused(Refusal),
-}
+// A refusal's number, as the rules have it.
+impl From<Refusal> for u32 {
+    ghost from_gives = { λ k n. n ≡ refusal_number k };
 
-// What `open_for_peer`, `eof`, `close` and `drain` answer.
-#[derive(Clone, Copy)]
-pub enum Acted {
-    Done,
-    Refused(Refusal),
-}
-
-// What the four data calls answer: the bytes framed now.
-#[derive(Clone, Copy)]
-pub enum Sent {
-    Framed(u32),
-    Refused(Refusal),
-}
-
-// What `adjust_window_size` answers: whether an adjust was staged.
-#[derive(Clone, Copy)]
-pub enum Charged {
-    Adjusted(bool),
-    Refused(Refusal),
+    #[tactic(auto, unfolding(crate::specs::Answers::refusal_number))]
+    fn from(k: Refusal) -> u32 {
+        match k {
+            Refusal::State => 1,
+            Refusal::Unknown => 2,
+            Refusal::Unconfirmed => 3,
+            Refusal::Limit => 4,
+            Refusal::Room => 5,
+            Refusal::Credit => 6,
+            Refusal::Malformed => 7,
+            Refusal::Already => 8,
+        }
+    }
 }
 
 // A pending flush that left no entry: the bytes framed, and the marks that it cleared.
@@ -171,49 +183,35 @@ pub struct Completed {
     pub pending_close: bool,
 }
 
-// What a pending flush of one channel answers.
+// How far a pending flush of one channel got: the bytes framed where an entry is left, or all.
 #[derive(Clone, Copy)]
 pub enum ChannelFlushResult {
     Incomplete(usize),
     Complete(Completed),
-    Refused(Refusal),
 }
 
-// What a pending flush of all channels answers: done, or the channel that it stopped at and why. An unsound state names no channel.
+// Why a pending flush of all channels ended early: the channel that it stopped at and why, or a state that is not sound, which names no
+// channel.
 #[derive(Clone, Copy)]
-pub enum AllFlushed {
-    Done,
-    Stopped(ChannelId, Refusal),
+pub enum Stopped {
+    At(ChannelId, Refusal),
     Refused(Refusal),
 }
 
-// What a staged flush answers: held during rekey, or the frames and bytes moved.
+// A refusal before any channel is flushed names none.
+impl From<Refusal> for Stopped {
+    ghost from_gives = { λ k s. s ≡ Refused k };
+
+    fn from(k: Refusal) -> Self {
+        Stopped::Refused(k)
+    }
+}
+
+// What a staged flush did: nothing during rekey, or the frames and bytes moved.
 #[derive(Clone, Copy)]
 pub enum Moved {
     Held,
     Run(usize, usize),
-    Refused(Refusal),
-}
-
-// What `incoming` answers.
-#[derive(Clone, Copy)]
-pub enum Taken {
-    Took(Message),
-    Refused(Refusal),
-}
-
-// What `sender_window_size` answers.
-#[derive(Clone, Copy)]
-pub enum WindowSize {
-    Window(u32),
-    Refused(Refusal),
-}
-
-// What `has_pending_data` answers.
-#[derive(Clone, Copy)]
-pub enum PendingData {
-    Pending(bool),
-    Refused(Refusal),
 }
 
 // The record of an unused place.
@@ -291,4 +289,29 @@ impl Table {
             sent_used: 0,
         }
     }
+}
+
+// What the type of a table says of it. A call for the proofs, which know of what is lent only what they are told; it runs nothing.
+fn typed_table(t: &Table)
+    ensures { (t.now.used < numbers_in_all)
+        × (length t.now.records ≡ place_count)
+        × (length t.now.entries ≡ most_entries) }
+{
+    let _used = t.used;
+}
+
+// The same of bytes.
+#[tactic(auto, unfolding(crate::specs::Called::AllBytes))]
+fn typed_bytes(bytes: &[u8])
+    ensures { AllBytes bytes.now }
+{
+    let _count = bytes.len();
+}
+
+// The same of a state, for the crates above.
+pub fn typed(t: &Table, queue: &[u8], staged: &[u8], sent: &[u8])
+    ensures { Typed (lent t.now queue.now staged.now sent.now) }
+{
+    typed_table(t);
+    typed_bytes(staged);
 }

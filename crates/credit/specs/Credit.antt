@@ -1,10 +1,8 @@
 -- What a credit comes to: the peer window grows, every other field stays, and nothing changes where the window would pass its limit.
 -- Assumes nothing.
-use Rattle.std.specs.Prelude.{ℕ, ◌+◌, Bool, cond, leb}
+use Rattle.std.specs.Prelude.{ℕ, ◌+◌, Bool, cond, leb, Result, Ok, Err}
 use Rattle.channel.specs.declared.Record.{Record}
-use Rattle.channel.specs.declared.Acted.{Acted}
-use Rattle.channel.specs.declared.Acted.TheVariants.{Done, Refused}
-use Rattle.channel.specs.declared.Refusal.TheVariants.{Credit}
+use Rattle.channel.specs.declared.Refusal.{Refusal}
 use Rattle.channel.specs.State.{most_window}
 use Rattle.channel.specs.Change.{with_peer_window}
 
@@ -12,8 +10,12 @@ use Rattle.channel.specs.Change.{with_peer_window}
 abbrev pub fits : Record → ℕ → Bool
 fits r add = leb (r.recipient_window_size + add) most_window
 
-unfoldable pub credit_answer : Record → ℕ → Acted
-credit_answer r add = cond (fits r add) Done (Refused Credit)
+unfoldable pub credit_answer : Record → ℕ → Result (Unit {0}) Refusal
+credit_answer r add = cond (fits r add) (Ok tt) (Err Refusal.Credit)
 
 unfoldable pub credit_record : Record → ℕ → Record
 credit_record r add = cond (fits r add) (with_peer_window r (r.recipient_window_size + add)) r
+
+-- the record by value, or why there is none
+unfoldable pub credited : Record → ℕ → Result Record Refusal
+credited r add = cond (fits r add) (Ok (credit_record r add)) (Err Refusal.Credit)

@@ -5,217 +5,141 @@
 ghost use Rattle.std.specs.Prelude.{◌≡◌, ◌≤◌, length};
 ghost use Rattle.echo.specs.Ends.{Ends};
 
-use channel::{ChannelData, ChannelId, Kind, Message, Table, Taken};
+use channel::{ChannelData, ChannelId, Kind, Message, Table};
 use input::read_full;
 use octets::read_u32;
 use std::io;
 
-// A whole frame with its end, or no more of them.
-#[derive(Clone, Copy)]
-enum Next {
-    Over,
-    Frame(usize),
+// The program's table, and the buffers that are lent for it, of the sizes of the rules.
+#[derive(Drop)]
+struct Echo {
+    table: Table,
+    queue: [u8; 8192],
+    staged: [u8; 16384],
+    sent: [u8; 16384],
 }
 
-// A length as an index.
-fn wide(n: u32) -> usize
-    ensures { result ≡ n }
-{
-    n as usize
-}
-
-// Opens one channel at the next number: receive window 64, limit 32.
-fn open(t: Table, queue: &[u8], staged: &[u8], sent: &[u8]) -> Table {
-    let o = numbers::new_channel(t, queue, staged, sent, 64, 32);
-    let next = o.table;
-    next
-}
-
-// Data goes back on its channel in the writer form, with the same kind.
-fn send_back(
-    t: Table,
-    queue: &mut [u8],
-    staged: &mut [u8],
-    sent: &mut [u8],
-    n: ChannelId,
-    kind: Kind,
-    bytes: &[u8],
-) -> Table {
-    match kind {
-        Kind::Plain => {
-            let o = sending::data_with_writer(t, queue, staged, sent, n, bytes, false);
-            let next = o.table;
-            next
+impl Echo {
+    // No channel yet.
+    fn new() -> Echo {
+        Echo {
+            table: Table::new(),
+            queue: [0; 8192],
+            staged: [0; 16384],
+            sent: [0; 16384],
         }
-        Kind::Extended(code) => {
-            let o = sending::extended_data_with_writer(
+    }
+
+    // Opens one channel at the next number: receive window 64, limit 32.
+    fn open(&mut self) {
+        let t = &mut self.table;
+        let _ = numbers::new_channel(t, &self.queue, &self.staged, &self.sent, 64, 32);
+    }
+
+    // Data goes back on its channel in the writer form, with the same kind.
+    fn send_back(&mut self, n: ChannelId, kind: Kind, bytes: &[u8]) {
+        let t = &mut self.table;
+        let queue = &mut self.queue;
+        let staged = &mut self.staged;
+        let sent = &mut self.sent;
+        let _ = match kind {
+            Kind::Plain => sending::data_with_writer(t, queue, staged, sent, n, bytes, false),
+            Kind::Extended(code) => sending::extended_data_with_writer(
                 t, queue, staged, sent, n, code, bytes, false,
-            );
-            let next = o.table;
-            next
+            ),
+        };
+    }
+
+    // Data is charged with target 64, then sent back. Its text stands within the payload: the reader answers no other.
+    fn reply_data(&mut self, payload: &[u8], m: ChannelData) {
+        let t = &mut self.table;
+        let length = m.text.length;
+        let _ = window::adjust_window_size(
+            t,
+            &self.queue,
+            &mut self.staged,
+            &self.sent,
+            m.recipient,
+            length,
+            64,
+        );
+        let rest = payload.get(m.text.start..);
+        if let Some(bytes) = rest.and_then(|rest| rest.get(..length as usize)) {
+            self.send_back(m.recipient, m.kind, bytes);
         }
     }
-}
 
-// A text of the payload goes back. It stands within the payload: the reader answers no other, so neither test is ever against it.
-fn send_text(
-    t: Table,
-    queue: &mut [u8],
-    staged: &mut [u8],
-    sent: &mut [u8],
-    payload: &[u8],
-    m: ChannelData,
-) -> Table {
-    let text = m.text;
-    let start = text.start;
-    let size = wide(text.length);
-    if start <= payload.len() {
-        if size <= payload.len() - start {
-            let n = m.recipient;
-            let kind = m.kind;
-            return send_back(
-                t,
-                queue,
-                staged,
-                sent,
-                n,
-                kind,
-                &payload[start..start + size],
-            );
+    // What a message is answered with: data with data, EOF with EOF, the others with nothing. A refused reply is dropped.
+    fn reply(&mut self, payload: &[u8], m: Message) {
+        match m {
+            Message::Data(d) => self.reply_data(payload, d),
+            Message::Eof(n) => {
+                let t = &mut self.table;
+                let _ = ending::eof(t, &self.queue, &mut self.staged, &self.sent, n);
+            }
+            _ => {}
         }
     }
-    t
-}
 
-// Data is charged with target 64, then sent back.
-fn reply_data(
-    t: Table,
-    queue: &mut [u8],
-    staged: &mut [u8],
-    sent: &mut [u8],
-    payload: &[u8],
-    m: ChannelData,
-) -> Table {
-    let n = m.recipient;
-    let text = m.text;
-    let o = window::adjust_window_size(t, &queue[..], staged, &sent[..], n, text.length, 64);
-    let charged = o.table;
-    send_text(charged, queue, staged, sent, payload, m)
-}
+    // One frame's payload is fed in. A refused message is skipped.
+    fn feed(&mut self, payload: &[u8]) {
+        let t = &mut self.table;
+        let arrived = incoming::incoming(t, &mut self.queue, &mut self.staged, &self.sent, payload);
+        let Ok(m) = arrived else {
+            return;
+        };
+        self.reply(payload, m);
+    }
 
-// What a message is answered with: data with data, EOF with EOF, the others with nothing. A refused reply is dropped.
-fn reply(
-    t: Table,
-    queue: &mut [u8],
-    staged: &mut [u8],
-    sent: &mut [u8],
-    payload: &[u8],
-    m: Message,
-) -> Table {
-    match m {
-        Message::Data(d) => reply_data(t, queue, staged, sent, payload, d),
-        Message::Eof(n) => {
-            let o = ending::eof(t, &queue[..], staged, &sent[..], n);
-            let next = o.table;
-            next
+    // What follows each frame: all pending flushed in the writer form, staged flushed, sent written out and drained.
+    fn settle(&mut self, rt: &impl Print) -> io::Result<()> {
+        let t = &mut self.table;
+        let queue = &mut self.queue;
+        let staged = &mut self.staged;
+        let sent = &mut self.sent;
+        let _ = pending::flush_all_pending_with_writer(t, queue, staged, sent, false);
+        let _ = staging::flush(t, queue, staged, sent, false);
+        if let Some(used) = sent.get(..t.sent_used) {
+            rt.write_all(used)?;
         }
-        _ => t,
+        let _ = staging::drain(t, queue, staged, sent);
+        Ok(())
     }
-}
 
-// One frame's payload is fed in. A refused message is skipped.
-fn feed(t: Table, queue: &mut [u8], staged: &mut [u8], sent: &mut [u8], payload: &[u8]) -> Table {
-    let arrived = incoming::incoming(t, queue, staged, &sent[..], payload);
-    let next = arrived.table;
-    let answer = arrived.answer;
-    let Taken::Took(m) = answer else {
-        return next;
-    };
-    reply(next, queue, staged, sent, payload, m)
-}
-
-// Writes the used part of sent, which is never longer than the buffer.
-fn write_sent(rt: &impl Print, sent: &[u8], used: usize) -> io::Result<()> {
-    if used <= sent.len() {
-        return rt.write_all(&sent[..used]);
+    // The frames one after the other, as far as they are whole.
+    fn run(&mut self, rt: &impl Print, input: &[u8]) -> io::Result<()> {
+        let mut at = 0;
+        while let Some(end) = next_frame(input, at) {
+            self.feed(&input[at + 4..end]);
+            self.settle(rt)?;
+            at = end;
+        }
+        Ok(())
     }
-    Ok(())
-}
-
-// What follows each frame: all pending flushed in the writer form, staged flushed, sent written out and drained.
-fn settle(
-    rt: &impl Print,
-    t: Table,
-    queue: &mut [u8],
-    staged: &mut [u8],
-    sent: &mut [u8],
-) -> io::Result<Table> {
-    let a = pending::flush_all_pending_with_writer(t, queue, staged, sent, false);
-    let flushed = a.table;
-    let b = staging::flush(flushed, &queue[..], staged, sent, false);
-    let moved = b.table;
-    write_sent(rt, &sent[..], moved.sent_used)?;
-    let c = staging::drain(moved, &queue[..], &staged[..], sent);
-    let next = c.table;
-    Ok(next)
-}
-
-// A frame is fed in, and what follows it is done.
-fn turn(
-    rt: &impl Print,
-    t: Table,
-    queue: &mut [u8],
-    staged: &mut [u8],
-    sent: &mut [u8],
-    payload: &[u8],
-) -> io::Result<Table> {
-    let fed = feed(t, queue, staged, sent, payload);
-    settle(rt, fed, queue, staged, sent)
 }
 
 // Where the frame that starts at a place ends, if it is whole.
-fn next_frame(input: &[u8], at: usize) -> Next
+fn next_frame(input: &[u8], at: usize) -> Option<usize>
     requires { at ≤ length input.now }
     ensures { Ends input.now at result }
 {
-    if 4 <= input.len() - at {
-        let size = wide(read_u32(input, at));
-        let first = at + 4;
-        if size <= input.len() - first {
-            return Next::Frame(first + size);
-        }
+    if input.len() - at < 4 {
+        return None;
     }
-    Next::Over
-}
-
-// The frames one after the other, as far as they are whole.
-fn run(
-    rt: &impl Print,
-    start: Table,
-    input: &[u8],
-    queue: &mut [u8],
-    staged: &mut [u8],
-    sent: &mut [u8],
-) -> io::Result<()> {
-    let mut t = start;
-    let mut at = 0;
-    loop {
-        let next = next_frame(input, at);
-        let Next::Frame(end) = next else {
-            return Ok(());
-        };
-        t = turn(rt, t, queue, staged, sent, &input[at + 4..end])?;
-        at = end;
+    let size = read_u32(input, at) as usize;
+    let first = at + 4;
+    if input.len() - first < size {
+        return None;
     }
+    Some(first + size)
 }
 
 fn main(rt: HostRuntime) -> io::Result<()> {
+    // A buffer with its count beside it: docs/RULES.md fixes the 16,384 bytes, and `n` of them came.
     let mut input = [0u8; 16384];
     let n = read_full(&mut rt.stdin(), &mut input)?;
-    let mut queue = [0u8; 8192];
-    let mut staged = [0u8; 16384];
-    let mut sent = [0u8; 16384];
-    let two = open(Table::new(), &queue, &staged, &sent);
-    let three = open(two, &queue, &staged, &sent);
-    run(&rt, three, &input[..n], &mut queue, &mut staged, &mut sent)
+    let mut echo = Echo::new();
+    echo.open();
+    echo.open();
+    echo.run(&rt, &input[..n])
 }

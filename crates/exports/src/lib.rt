@@ -6,10 +6,12 @@
 // - a slice is a pointer and a length: the pointer is not null, also for length 0, and that many bytes are there during the call;
 // - a buffer lent as `&mut` overlaps no other buffer of the same call;
 // - a bool is 0 or 1, also within the table: four in each record, and `extended` in each entry;
-// - the structs have C's layout, with the fields in the order given: `Reply` here, `Numbers` in crate `answers`, and `Table`, `Record`, `Entry`
-//   and `StoredKind` in crate `channel`, where `ChannelId` and `PeerNumber` are one 32-bit number each.
+// - the structs have C's layout, with the fields in the order given: `Reply` here, `Numbers` in crate `answers`, and `Table`, `Record`,
+//   `Entry` and `StoredKind` in crate `channel`, where `ChannelId` and `PeerNumber` are one 32-bit number each.
+//
+// Each call is a function of its own, with the table by value and every number and buffer apart: the C interface.
 
-#![tactic(auto)]
+#![tactic(auto, unfolding(crate::specs::Told::told))]
 
 ghost use Rattle.std.specs.Prelude.{◌≡◌, false};
 ghost use Rattle.channel.specs.declared.Kind.TheVariants as K;
@@ -18,10 +20,7 @@ ghost use Rattle.channel.specs.Called.{lent, called};
 ghost use Rattle.channel.specs.Raw.{empty_table};
 ghost use Rattle.exports.specs.Told.{left, told};
 
-use answers::{
-    Numbers, of_acted, of_all, of_charged, of_flushed, of_moved, of_pending, of_picked, of_sent,
-    of_taken, of_window,
-};
+use answers::Numbers;
 use channel::{ChannelId, PeerNumber, Table};
 
 // What every call gives back but a query, which changes nothing and gives its answer alone: the answer in numbers, and the table.
@@ -30,6 +29,20 @@ use channel::{ChannelId, PeerNumber, Table};
 pub struct Reply {
     pub answer: Numbers,
     pub table: Table,
+}
+
+impl Reply {
+    // A call's answer in numbers, and the table after the call.
+    #[inline(always)]
+    fn new<A: Into<Numbers>>(answer: A, table: Table) -> Reply
+        ensures answer { A.converts answer result.answer }
+        ensures table { result.table ≡ table }
+    {
+        Reply {
+            answer: answer.into(),
+            table,
+        }
+    }
 }
 
 // The empty table.
@@ -55,13 +68,9 @@ pub extern "C" fn oxenhush_new_channel(
     ensures { left result queue.now staged.now sent.now
         ≡ told (called (lent t queue.now staged.now sent.now) (C.act (C.new_channel window_size maxpacket))) }
 {
-    let picked = numbers::new_channel(t, queue, staged, sent, window_size, maxpacket);
-    let answer = picked.answer;
-    let table = picked.table;
-    Reply {
-        answer: of_picked(answer),
-        table,
-    }
+    let mut table = t;
+    let answer = numbers::new_channel(&mut table, queue, staged, sent, window_size, maxpacket);
+    Reply::new(answer, table)
 }
 
 // Picks a number in the same way and opens nothing. Value: the number.
@@ -76,13 +85,9 @@ pub extern "C" fn oxenhush_new_channel_id(
     ensures { left result queue.now staged.now sent.now
         ≡ told (called (lent t queue.now staged.now sent.now) (C.act C.new_channel_id)) }
 {
-    let picked = numbers::new_channel_id(t, queue, staged, sent);
-    let answer = picked.answer;
-    let table = picked.table;
-    Reply {
-        answer: of_picked(answer),
-        table,
-    }
+    let mut table = t;
+    let answer = numbers::new_channel_id(&mut table, queue, staged, sent);
+    Reply::new(answer, table)
 }
 
 // Opens a confirmed record at a number that the caller gives. No value.
@@ -103,8 +108,9 @@ pub extern "C" fn oxenhush_open_for_peer(
     ensures { left result queue.now staged.now sent.now
         ≡ told (called (lent t queue.now staged.now sent.now) (C.act (C.open_for_peer number peer window_size maxpacket peer_window peer_maxpacket))) }
 {
-    let opened = numbers::open_for_peer(
-        t,
+    let mut table = t;
+    let answer = numbers::open_for_peer(
+        &mut table,
         queue,
         staged,
         sent,
@@ -115,12 +121,7 @@ pub extern "C" fn oxenhush_open_for_peer(
         peer_window,
         peer_maxpacket,
     );
-    let answer = opened.answer;
-    let table = opened.table;
-    Reply {
-        answer: of_acted(answer),
-        table,
-    }
+    Reply::new(answer, table)
 }
 
 // Data in packets into staged; what the window leaves over is queued. Value: the bytes framed now.
@@ -138,13 +139,17 @@ pub extern "C" fn oxenhush_data(
     ensures { left result queue.new staged.new sent.now
         ≡ told (called (lent t queue.old staged.old sent.now) (C.put (record { form = C.staged; rekey = rekey }) (C.send K.Plain number buf.now))) }
 {
-    let framed = sending::data(t, queue, staged, sent, ChannelId(number), buf, rekey);
-    let answer = framed.answer;
-    let table = framed.table;
-    Reply {
-        answer: of_sent(answer),
-        table,
-    }
+    let mut table = t;
+    let answer = sending::data(
+        &mut table,
+        queue,
+        staged,
+        sent,
+        ChannelId(number),
+        buf,
+        rekey,
+    );
+    Reply::new(answer, table)
 }
 
 // The same, into sent where nothing is staged.
@@ -162,13 +167,17 @@ pub extern "C" fn oxenhush_data_with_writer(
     ensures { left result queue.new staged.new sent.new
         ≡ told (called (lent t queue.old staged.old sent.old) (C.put (record { form = C.straight; rekey = rekey }) (C.send K.Plain number buf.now))) }
 {
-    let framed = sending::data_with_writer(t, queue, staged, sent, ChannelId(number), buf, rekey);
-    let answer = framed.answer;
-    let table = framed.table;
-    Reply {
-        answer: of_sent(answer),
-        table,
-    }
+    let mut table = t;
+    let answer = sending::data_with_writer(
+        &mut table,
+        queue,
+        staged,
+        sent,
+        ChannelId(number),
+        buf,
+        rekey,
+    );
+    Reply::new(answer, table)
 }
 
 // Extended data with its code, into staged. Value: the bytes framed now.
@@ -187,13 +196,18 @@ pub extern "C" fn oxenhush_extended_data(
     ensures { left result queue.new staged.new sent.now
         ≡ told (called (lent t queue.old staged.old sent.now) (C.put (record { form = C.staged; rekey = rekey }) (C.send (K.Extended ext) number buf.now))) }
 {
-    let framed = sending::extended_data(t, queue, staged, sent, ChannelId(number), ext, buf, rekey);
-    let answer = framed.answer;
-    let table = framed.table;
-    Reply {
-        answer: of_sent(answer),
-        table,
-    }
+    let mut table = t;
+    let answer = sending::extended_data(
+        &mut table,
+        queue,
+        staged,
+        sent,
+        ChannelId(number),
+        ext,
+        buf,
+        rekey,
+    );
+    Reply::new(answer, table)
 }
 
 // The same, into sent where nothing is staged.
@@ -212,8 +226,9 @@ pub extern "C" fn oxenhush_extended_data_with_writer(
     ensures { left result queue.new staged.new sent.new
         ≡ told (called (lent t queue.old staged.old sent.old) (C.put (record { form = C.straight; rekey = rekey }) (C.send (K.Extended ext) number buf.now))) }
 {
-    let framed = sending::extended_data_with_writer(
-        t,
+    let mut table = t;
+    let answer = sending::extended_data_with_writer(
+        &mut table,
         queue,
         staged,
         sent,
@@ -222,12 +237,7 @@ pub extern "C" fn oxenhush_extended_data_with_writer(
         buf,
         rekey,
     );
-    let answer = framed.answer;
-    let table = framed.table;
-    Reply {
-        answer: of_sent(answer),
-        table,
-    }
+    Reply::new(answer, table)
 }
 
 // No more data will come on the channel. No value.
@@ -243,13 +253,9 @@ pub extern "C" fn oxenhush_eof(
     ensures { left result queue.now staged.new sent.now
         ≡ told (called (lent t queue.now staged.old sent.now) (C.act (C.eof number))) }
 {
-    let ended = ending::eof(t, queue, staged, sent, ChannelId(number));
-    let answer = ended.answer;
-    let table = ended.table;
-    Reply {
-        answer: of_acted(answer),
-        table,
-    }
+    let mut table = t;
+    let answer = ending::eof(&mut table, queue, staged, sent, ChannelId(number));
+    Reply::new(answer, table)
 }
 
 // The channel is closed at this end. No value.
@@ -265,13 +271,9 @@ pub extern "C" fn oxenhush_close(
     ensures { left result queue.now staged.new sent.now
         ≡ told (called (lent t queue.now staged.old sent.now) (C.act (C.close number))) }
 {
-    let ended = ending::close(t, queue, staged, sent, ChannelId(number));
-    let answer = ended.answer;
-    let table = ended.table;
-    Reply {
-        answer: of_acted(answer),
-        table,
-    }
+    let mut table = t;
+    let answer = ending::close(&mut table, queue, staged, sent, ChannelId(number));
+    Reply::new(answer, table)
 }
 
 // n bytes were received on the channel. Value: 1 if a WINDOW_ADJUST was staged, else 0.
@@ -289,16 +291,21 @@ pub extern "C" fn oxenhush_adjust_window_size(
     ensures { left result queue.now staged.new sent.now
         ≡ told (called (lent t queue.now staged.old sent.now) (C.act (C.adjust number n target))) }
 {
-    let charged = window::adjust_window_size(t, queue, staged, sent, ChannelId(number), n, target);
-    let answer = charged.answer;
-    let table = charged.table;
-    Reply {
-        answer: of_charged(answer),
-        table,
-    }
+    let mut table = t;
+    let answer = window::adjust_window_size(
+        &mut table,
+        queue,
+        staged,
+        sent,
+        ChannelId(number),
+        n,
+        target,
+    );
+    Reply::new(answer, table)
 }
 
 // The receive window, 0 for an unknown number. Value: that window.
+#[tactic(auto, using(answers::proofs::Read::as_window_size), unfolding(crate::specs::Told::told))]
 #[inline(always)]
 #[unsafe(no_mangle)]
 pub extern "C" fn oxenhush_sender_window_size(
@@ -311,10 +318,11 @@ pub extern "C" fn oxenhush_sender_window_size(
     ensures { left (record { answer = result; table = t }) queue.now staged.now sent.now
         ≡ told (called (lent t queue.now staged.now sent.now) (C.act (C.window_of number))) }
 {
-    of_window(window::sender_window_size(t, queue, staged, sent, ChannelId(number)))
+    window::sender_window_size(&t, queue, staged, sent, ChannelId(number)).into()
 }
 
 // Whether the channel has an entry, no for an unknown number. Value: 1 or 0.
+#[tactic(auto, using(answers::proofs::Read::as_pending_data), unfolding(crate::specs::Told::told))]
 #[inline(always)]
 #[unsafe(no_mangle)]
 pub extern "C" fn oxenhush_has_pending_data(
@@ -327,7 +335,7 @@ pub extern "C" fn oxenhush_has_pending_data(
     ensures { left (record { answer = result; table = t }) queue.now staged.now sent.now
         ≡ told (called (lent t queue.now staged.now sent.now) (C.act (C.has_pending number))) }
 {
-    of_pending(window::has_pending_data(t, queue, staged, sent, ChannelId(number)))
+    window::has_pending_data(&t, queue, staged, sent, ChannelId(number)).into()
 }
 
 // The pending flush of one channel into staged. Values: 1, the bytes framed and the two marks if complete, else 0 and the bytes framed.
@@ -343,13 +351,9 @@ pub extern "C" fn oxenhush_flush_pending(
     ensures { left result queue.new staged.new sent.now
         ≡ told (called (lent t queue.old staged.old sent.now) (C.put (record { form = C.staged; rekey = false }) (C.flush number))) }
 {
-    let flushed = pending::flush_pending(t, queue, staged, sent, ChannelId(number));
-    let answer = flushed.answer;
-    let table = flushed.table;
-    Reply {
-        answer: of_flushed(answer),
-        table,
-    }
+    let mut table = t;
+    let answer = pending::flush_pending(&mut table, queue, staged, sent, ChannelId(number));
+    Reply::new(answer, table)
 }
 
 // The same, straight into sent while staged is empty and rekey is off.
@@ -366,20 +370,16 @@ pub extern "C" fn oxenhush_flush_pending_with_writer(
     ensures { left result queue.new staged.new sent.new
         ≡ told (called (lent t queue.old staged.old sent.old) (C.put (record { form = C.straight; rekey = rekey }) (C.flush number))) }
 {
-    let flushed = pending::flush_pending_with_writer(
-        t,
+    let mut table = t;
+    let answer = pending::flush_pending_with_writer(
+        &mut table,
         queue,
         staged,
         sent,
         ChannelId(number),
         rekey,
     );
-    let answer = flushed.answer;
-    let table = flushed.table;
-    Reply {
-        answer: of_flushed(answer),
-        table,
-    }
+    Reply::new(answer, table)
 }
 
 // The pending flush of all channels into staged, in ascending number. Value beside a refusal: the channel that it stopped at.
@@ -394,13 +394,9 @@ pub extern "C" fn oxenhush_flush_all_pending(
     ensures { left result queue.new staged.new sent.now
         ≡ told (called (lent t queue.old staged.old sent.now) (C.flush_all (record { form = C.staged; rekey = false }))) }
 {
-    let flushed = pending::flush_all_pending(t, queue, staged, sent);
-    let answer = flushed.answer;
-    let table = flushed.table;
-    Reply {
-        answer: of_all(answer),
-        table,
-    }
+    let mut table = t;
+    let answer = pending::flush_all_pending(&mut table, queue, staged, sent);
+    Reply::new(answer, table)
 }
 
 // The same in the writer form.
@@ -416,13 +412,9 @@ pub extern "C" fn oxenhush_flush_all_pending_with_writer(
     ensures { left result queue.new staged.new sent.new
         ≡ told (called (lent t queue.old staged.old sent.old) (C.flush_all (record { form = C.straight; rekey = rekey }))) }
 {
-    let flushed = pending::flush_all_pending_with_writer(t, queue, staged, sent, rekey);
-    let answer = flushed.answer;
-    let table = flushed.table;
-    Reply {
-        answer: of_all(answer),
-        table,
-    }
+    let mut table = t;
+    let answer = pending::flush_all_pending_with_writer(&mut table, queue, staged, sent, rekey);
+    Reply::new(answer, table)
 }
 
 // The longest front run of staged's frames that fits moves to sent. Values: 1, the frames and the bytes, or 0 if rekey holds it.
@@ -438,13 +430,9 @@ pub extern "C" fn oxenhush_flush(
     ensures { left result queue.now staged.new sent.new
         ≡ told (called (lent t queue.now staged.old sent.old) (C.flush_staged rekey)) }
 {
-    let moved = staging::flush(t, queue, staged, sent, rekey);
-    let answer = moved.answer;
-    let table = moved.table;
-    Reply {
-        answer: of_moved(answer),
-        table,
-    }
+    let mut table = t;
+    let answer = staging::flush(&mut table, queue, staged, sent, rekey);
+    Reply::new(answer, table)
 }
 
 // Sent is emptied. No value.
@@ -454,13 +442,9 @@ pub extern "C" fn oxenhush_drain(t: Table, queue: &[u8], staged: &[u8], sent: &m
     ensures { left result queue.now staged.now sent.new
         ≡ told (called (lent t queue.now staged.now sent.old) C.drain) }
 {
-    let drained = staging::drain(t, queue, staged, sent);
-    let answer = drained.answer;
-    let table = drained.table;
-    Reply {
-        answer: of_acted(answer),
-        table,
-    }
+    let mut table = t;
+    let answer = staging::drain(&mut table, queue, staged, sent);
+    Reply::new(answer, table)
 }
 
 // One payload is read and acted on. Values: the message's type and its fields, in their order.
@@ -476,11 +460,7 @@ pub extern "C" fn oxenhush_incoming(
     ensures { left result queue.new staged.new sent.now
         ≡ told (called (lent t queue.old staged.old sent.now) (C.act (C.incoming payload.now))) }
 {
-    let taken = incoming::incoming(t, queue, staged, sent, payload);
-    let answer = taken.answer;
-    let table = taken.table;
-    Reply {
-        answer: of_taken(answer),
-        table,
-    }
+    let mut table = t;
+    let answer = incoming::incoming(&mut table, queue, staged, sent, payload);
+    Reply::new(answer, table)
 }

@@ -1,5 +1,6 @@
 // The calls of `exports` for C and for any language that calls C: each under its name and with its promise, in an archive (tools/archive).
-// What a caller must keep stands in crates/exports/src/lib.rt.
+// What a caller must keep stands in crates/exports/src/lib.rt. They stand here a second time for the C interface: a crate is a library or
+// an archive, and never both.
 
 #![tactic(auto)]
 

@@ -4,13 +4,14 @@
 use mathlib.Core.Path.{◌≡◌, refl, sym, ap, ◌∙◌}
 use mathlib.Core.List.{List, [], ◌∷◌, ◌++◌, map, append_assoc, append-nil}
 use Prim.Native.Nat.{ℕ, zero, suc, min, ◌+◌, ◌-◌, ◌*◌, ◌/◌, ◌≤◌, ◌<◌}
-use native.Mathlib.Nat.{le_trans, le_of_lt, mul-le-mul_left, mul-le-mul_right, suc-mul, div-eq_of_lt, add-div_right, div-le_self, min-eq_left, min-eq_right, add-zero, add_assoc, zero-mul}
+use native.Mathlib.Nat.{le_trans, mul-le-mul_left, mul-le-mul_right, suc-mul, div-eq_of_lt, add-div_right, div-le_self, add-zero, add_assoc, zero-mul}
 use native.Mathlib.Numerals.{add-one}
 use native.Mathlib.Omega.{arith}
 use lib.Dec.{leb, ltb}
 use borrow.Author.Tests.{leb-true, leb-false, ltb-true, ltb-false}
-use lib.ListN.{length, take, drop, length-append, length-take, length-drop, length-map, drop_of_length-le}
-use lib.Seq.{take_all, drop-drop, get_or-drop}
+use lib.ListN.{length, take, drop, length-append, length-take, length-drop, drop_of_length-le}
+use lib.Seq.{take_all, take_at, drop_at, get_or-drop}
+use Rattle.std.proofs.lemmas.List.{nil_from_length}
 use Rattle.laws.proofs.Tests.{by_test}
 use Rattle.octets.specs.Buf as B
 use Rattle.octets.specs.Buf.{write, be32, de32}
@@ -19,7 +20,7 @@ use Rattle.channel.specs.declared.Kind.{Kind}
 use Rattle.channel.specs.declared.Kind.TheVariants.{Plain, Extended}
 use Rattle.channel.specs.Wire as W
 use Rattle.channel.specs.Wire.{uint32, read32, data_message, adjust_message, eof_message, close_message, frame, frames, pieces, packets}
-use Rattle.frames.specs.Frame.{over, head}
+use Rattle.frames.specs.Frame.{over, head, data_head}
 
 -- NUMBERS: channel's are those of the buffer's leaves
 
@@ -45,6 +46,14 @@ length-message : (kind : Kind) (peer : ℕ) (bs : List ℕ) → 4 + length (data
 unfolding W.data_message W.uint32
 length-message Plain peer bs = omega arith
 length-message (Extended code) peer bs = omega arith
+
+over_ge : (kind : Kind) → 13 ≤ over kind
+over_ge Plain = omega arith
+over_ge (Extended code) = omega arith
+
+over_le : (kind : Kind) → over kind ≤ 17
+over_le Plain = omega arith
+over_le (Extended code) = omega arith
 
 -- 13 bytes over the data, 17 when extended
 pub length_packet : (kind : Kind) (peer : ℕ) (bs : List ℕ) → length (frame (data_message kind peer bs)) ≡ length bs + over kind
@@ -94,37 +103,41 @@ frame-adjust : (peer add : ℕ) → frame (adjust_message peer add) ≡ head 9 9
 unfolding W.frame W.adjust_message W.uint32 head
 frame-adjust peer add = refl
 
-frame_plain : (peer : ℕ) (bs : List ℕ) → frame (data_message Plain peer bs) ≡ head (length bs + 9) 94 peer ++ (uint32 (length bs) ++ bs)
-unfolding W.frame W.data_message head
-frame_plain peer bs =
+frame_data : (kind : Kind) (peer : ℕ) (bs : List ℕ)
+    → frame (data_message kind peer bs) ≡ data_head kind peer (length bs) ++ (uint32 (length bs) ++ bs)
+unfolding W.frame W.data_message data_head head
+frame_data Plain peer bs =
     let e : length (data_message Plain peer bs) ≡ length bs + 9 = omega (arith, length-message Plain peer bs) in
     rw e (simp append_assoc)
-
-frame_extended : (peer code : ℕ) (bs : List ℕ)
-    → frame (data_message (Extended code) peer bs) ≡ head (length bs + 13) 95 peer ++ (uint32 code ++ (uint32 (length bs) ++ bs))
-unfolding W.frame W.data_message head
-frame_extended peer code bs =
+frame_data (Extended code) peer bs =
     let e : length (data_message (Extended code) peer bs) ≡ length bs + 13 = omega (arith, length-message (Extended code) peer bs) in
     rw e (simp append_assoc)
+
+length-data_head : (kind : Kind) (peer n : ℕ) → length (data_head kind peer n) ≡ over kind - 4
+unfolding data_head head W.uint32
+length-data_head Plain peer n = refl
+length-data_head (Extended code) peer n = refl
 
 pub nine_by : {d : List ℕ} (at number peer : ℕ) (l : List ℕ) → d ≡ write at (head 5 number peer) l → d ≡ write at (frame (number ∷ uint32 peer)) l
 nine_by at number peer l p = rw (frame_nine number peer) p
 
+pub after_head : {d₁ d₂ : List ℕ} (at n number peer x : ℕ) (l : List ℕ)
+    → d₁ ≡ write at (head n number peer) l → d₂ ≡ write (at + 9) (be32 x) d₁
+    → d₂ ≡ write at (head n number peer ++ uint32 x) l
+after_head at n number peer x l p q = rw (q, p) (simp (uint32-is, write-append, length-head))
+
 pub adjust_by : {d₁ d₂ : List ℕ} (at peer add : ℕ) (l : List ℕ)
     → d₁ ≡ write at (head 9 93 peer) l → d₂ ≡ write (at + 9) (be32 add) d₁
     → d₂ ≡ write at (frame (adjust_message peer add)) l
-adjust_by at peer add l p q = rw (q, p, frame-adjust peer add) (simp (uint32-is, write-append, length-head))
+adjust_by at peer add l p q = rw (frame-adjust peer add) (after_head at 9 93 peer add l p q)
 
-pub plain_by : {d₁ d₂ d₃ : List ℕ} (at peer : ℕ) (bs l : List ℕ)
-    → d₁ ≡ write at (head (length bs + 9) 94 peer) l → d₂ ≡ write (at + 9) (be32 (length bs)) d₁ → d₃ ≡ write (at + 13) bs d₂
-    → d₃ ≡ write at (frame (data_message Plain peer bs)) l
-plain_by at peer bs l p q r = rw (r, q, p, frame_plain peer bs) (simp (uint32-is, write-append, length-head, length-be32, add_assoc))
-
-pub extended_by : {d₁ d₂ d₃ d₄ : List ℕ} (at peer code : ℕ) (bs l : List ℕ)
-    → d₁ ≡ write at (head (length bs + 13) 95 peer) l → d₂ ≡ write (at + 9) (be32 code) d₁
-    → d₃ ≡ write (at + 13) (be32 (length bs)) d₂ → d₄ ≡ write (at + 17) bs d₃
-    → d₄ ≡ write at (frame (data_message (Extended code) peer bs)) l
-extended_by at peer code bs l p q r t = rw (t, r, q, p, frame_extended peer code bs) (simp (uint32-is, write-append, length-head, length-be32, add_assoc))
+pub data_by : {d₁ d₂ d₃ : List ℕ} (at o peer : ℕ) (kind : Kind) (bs l : List ℕ) → o ≡ over kind
+    → d₁ ≡ write at (data_head kind peer (length bs)) l → d₂ ≡ write (at + o - 4) (be32 (length bs)) d₁ → d₃ ≡ write (at + o) bs d₂
+    → d₃ ≡ write at (frame (data_message kind peer bs)) l
+data_by at o peer kind bs l e p q r =
+    let f : at + length (data_head kind peer (length bs)) ≡ at + o - 4 = omega (arith, length-data_head kind peer (length bs), over_ge kind) in
+    let g : at + o - 4 + 4 ≡ at + o = omega (arith, over_ge kind) in
+    rw (r, q, p, frame_data kind peer bs) (simp (uint32-is, write-append, length-be32, f, g))
 
 -- PACKETS OF A RUN
 
@@ -203,10 +216,6 @@ ceil_le n limit h =
     let e : (n + (limit - 1)) / limit ≡ 0 = div-eq_of_lt (omega arith) in
     omega arith)
 
-over_le : (kind : Kind) → over kind ≤ 17
-over_le Plain = omega arith
-over_le (Extended code) = omega arith
-
 -- what the packets take over the data of n bytes is at most 17 bytes for each
 pub heads_le : (n limit : ℕ) (kind : Kind) → 0 < limit → ceil_div n limit * over kind ≤ n * 17
 heads_le n limit kind h = le_trans (mul-le-mul_left (ceil_div n limit) (over_le kind)) (mul-le-mul_right 17 (ceil_le n limit h))
@@ -228,10 +237,6 @@ count-pieces (suc c) limit [] h l = sym (ceil_zero limit h)
 count-pieces (suc c) limit (b ∷ bs) h l =
     let d = length-drop limit (b ∷ bs) in
     ap suc (count-pieces c limit (drop limit (b ∷ bs)) h (omega arith) ∙ ap (λ n. ceil_div n limit) d) ∙ sym (ceil_step (length (b ∷ bs)) limit h (omega arith))
-
-pub count-packets : (kind : Kind) (peer limit : ℕ) (bs : List ℕ) → 0 < limit → length (packets kind peer limit bs) ≡ ceil_div (length bs) limit
-unfolding W.packets
-count-packets kind peer limit bs h = length-map (pieces (length bs) limit bs) (data_message kind peer) ∙ count-pieces (length bs) limit bs h (omega arith)
 
 length-pieces : (c : ℕ) (kind : Kind) (peer limit : ℕ) (bs : List ℕ) → 0 < limit → length bs ≤ c
     → length (frames (map (data_message kind peer) (pieces c limit bs))) ≡ run_size kind limit (length bs)
@@ -257,47 +262,41 @@ length_run kind peer limit bs h = length-pieces (length bs) kind peer limit bs h
 -- THE LOOP OVER A RUN
 
 -- nothing is left
-pub run_end : (kind : Kind) (peer limit : ℕ) (bs : List ℕ) (off : ℕ) → length bs ≤ off → frames (packets kind peer limit (drop off bs)) ≡ []
+pub run_end : (kind : Kind) (peer limit : ℕ) (bs : List ℕ) → length bs ≡ 0 → frames (packets kind peer limit bs) ≡ []
 unfolding W.frames
-run_end kind peer limit bs off h = ap (λ l. frames (packets kind peer limit l)) (drop_of_length-le bs {i = off} h) ∙ ap frames (packets-nil kind peer limit)
+run_end kind peer limit bs e = ap (λ l. frames (packets kind peer limit l)) (nil_from_length bs e) ∙ ap frames (packets-nil kind peer limit)
 
--- one turn: m bytes, the limit or what is left, are one packet
-module _ (kind : Kind) (peer limit : ℕ) (bs : List ℕ) (off m : ℕ) (h : 0 < limit) (l : off < length bs) (e : m ≡ min (length bs - off) limit) where
-  run_step : frames (packets kind peer limit (drop off bs))
-      ≡ frame (data_message kind peer (take m (drop off bs))) ++ frames (packets kind peer limit (drop (off + m) bs))
+-- one turn: a chunk off the front, of the limit or all that is left, is one packet
+module _ (kind : Kind) (peer limit : ℕ) {bs : List ℕ} (x rest : List ℕ) (h : 0 < limit)
+    (e : bs ≡ x ++ rest) (s : length x ≡ min limit (length bs)) (some : 0 < length bs) where
+  cut_off : (take limit bs ≡ x) × (drop limit bs ≡ rest)
+  cut_off =
+      let n = ap length e ∙ length-append x rest in
+      by_test (leb limit (length bs))
+      (λ t.
+      let l = leb-true limit (length bs) t in
+      let k : length x ≡ limit = omega arith in
+      (rw e (take_at x rest limit k), rw e (drop_at x rest limit k)))
+      (λ t.
+      let l = leb-false limit (length bs) t in
+      let z : rest ≡ [] = nil_from_length rest (omega arith) in
+      (take_all limit bs (omega arith) ∙ e ∙ rw (z, append-nil), drop_of_length-le bs {i = limit} (omega arith) ∙ sym z))
+
+  run_step : frames (packets kind peer limit bs) ≡ frame (data_message kind peer x) ++ frames (packets kind peer limit rest)
   unfolding W.frames
-  run_step =
-      let n = length-drop off bs in
-      let c = ap frames (packets-cons kind peer limit (drop off bs) h (omega arith)) in
-      by_test (leb limit (length bs - off))
-      (λ t.
-      let le = leb-true limit (length bs - off) t in
-      let f : m ≡ limit = omega (arith, min-eq_right le) in
-      rw f (c ∙ rw (drop-drop limit off bs)))
-      (λ t.
-      let lt = leb-false limit (length bs - off) t in
-      let f : m ≡ length bs - off = omega (arith, min-eq_left (le_of_lt lt)) in
-      let t1 : take limit (drop off bs) ≡ drop off bs = take_all limit (drop off bs) (omega arith) in
-      let t2 : take m (drop off bs) ≡ drop off bs = take_all m (drop off bs) (omega arith) in
-      let d1 : drop limit (drop off bs) ≡ [] = drop_of_length-le (drop off bs) {i = limit} (omega arith) in
-      let d2 : drop (off + m) bs ≡ [] = drop_of_length-le bs {i = off + m} (omega arith) in
-      rw (t2, d2) (c ∙ rw (t1, d1)))
+  run_step = ap frames (packets-cons kind peer limit bs h some) ∙ rw (cut_off.0, cut_off.1)
 
-  packet_size : length (frame (data_message kind peer (take m (drop off bs)))) ≡ m + over kind
-  packet_size = length_packet kind peer (take m (drop off bs)) ∙ omega (arith, length-take m (drop off bs), length-drop off bs)
-
-  pub run_room : length (frames (packets kind peer limit (drop off bs))) ≡ m + over kind + length (frames (packets kind peer limit (drop (off + m) bs)))
+  pub run_room : length (frames (packets kind peer limit bs)) ≡ length x + over kind + length (frames (packets kind peer limit rest))
   run_room =
       ap length run_step
-      ∙ length-append (frame (data_message kind peer (take m (drop off bs)))) (frames (packets kind peer limit (drop (off + m) bs)))
-      ∙ ap (λ k. k + length (frames (packets kind peer limit (drop (off + m) bs)))) packet_size
+      ∙ length-append (frame (data_message kind peer x)) (frames (packets kind peer limit rest))
+      ∙ ap (λ k. k + length (frames (packets kind peer limit rest))) (length_packet kind peer x)
 
   -- the packet written, and the rest of what is to be
-  pub run-write : {whole dst' : List ℕ} (pos o : ℕ) (dst : List ℕ) → whole ≡ write pos (frames (packets kind peer limit (drop off bs))) dst
-      → dst' ≡ write pos (frame (data_message kind peer (take (off + m - off) (drop off bs)))) dst → o ≡ over kind
-      → whole ≡ write (pos + m + o) (frames (packets kind peer limit (drop (off + m) bs))) dst'
+  pub run-write : {whole dst' : List ℕ} (pos o : ℕ) (dst : List ℕ) → whole ≡ write pos (frames (packets kind peer limit bs)) dst
+      → dst' ≡ write pos (frame (data_message kind peer x)) dst → o ≡ over kind
+      → whole ≡ write (pos + (length x + o)) (frames (packets kind peer limit rest)) dst'
   run-write pos o dst w d f =
-      let s : pos + length (frame (data_message kind peer (take m (drop off bs)))) ≡ pos + m + over kind = omega (arith, packet_size) in
-      let t : off + m - off ≡ m = omega arith in
-      let r = rw (run_step, write-append pos (frame (data_message kind peer (take m (drop off bs)))) (frames (packets kind peer limit (drop (off + m) bs))) dst, s) at w in
-      rw (f, d, t) r
+      let k : pos + length (frame (data_message kind peer x)) ≡ pos + (length x + over kind) = omega (arith, length_packet kind peer x) in
+      let r = rw (run_step, write-append pos (frame (data_message kind peer x)) (frames (packets kind peer limit rest)) dst, k) at w in
+      rw (f, d) r

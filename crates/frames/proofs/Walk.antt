@@ -2,16 +2,15 @@
 -- walk has passed and what fits of those left; a turn is one step of `messages_of`, `whole_frames` and `fitting` together.
 -- Assumes nothing.
 use mathlib.Core.Path.{◌≡◌, refl, sym, ap, ◌∙◌}
-use mathlib.Core.Bool.{Bool, true, false, ◌&&◌, true≢false}
+use mathlib.Core.Bool.{Bool, true, false, ◌&&◌, and-false, true≢false}
 use mathlib.Core.List.{List, [], ◌∷◌}
 use Prim.Native.Nat.{ℕ, zero, suc, ◌+◌, ◌-◌, ◌≤◌, ◌<◌}
-use native.Mathlib.Nat.{sub-zero, zero-add}
 use native.Mathlib.Omega.{arith}
 use borrow.Author.Tests.{lt-ltb, le-leb, lt-leb, ltb-true, ltb-false, leb-true}
 use lib.Dec.{ltb, leb}
 use lib.ListN.{length, take, drop, length-append, length-drop, drop_of_length-le}
 use lib.Seq.{length-take-le, drop-drop, get_or-take}
-use Rattle.laws.proofs.Tests.{by_test}
+use Rattle.laws.proofs.Tests.{by_test, and_both}
 use Rattle.octets.specs.Buf.{de32}
 use Rattle.channel.specs.Wire as W
 use Rattle.channel.specs.Wire.{read32, frame, frames}
@@ -36,14 +35,6 @@ whole_true bs t = rw t
 whole_false : (bs : List ℕ) → stands bs ≡ false → whole_at bs ≡ 0
 unfolding whole_at
 whole_false bs t = rw t
-
-and-false : (b : Bool) → b && false ≡ false
-and-false true = refl
-and-false false = refl
-
-both : (a b : Bool) → a && b ≡ true → (a ≡ true) × (b ≡ true)
-both true b e = (refl, e)
-both false b e = absurd (true≢false (sym e))
 
 pub whole-empty : (bs : List ℕ) → read32 bs ≡ 0 → whole_at bs ≡ 0
 whole-empty bs e = whole_false bs (rw e)
@@ -74,7 +65,7 @@ read32-used l used at h =
 stands_facts : (bs : List ℕ) → 0 < whole_at bs → (stands bs ≡ true) × (whole_at bs ≡ 4 + read32 bs) × (4 + read32 bs ≤ length bs)
 stands_facts bs h =
     by_test (stands bs)
-    (λ t. (t, whole_true bs t, leb-true (4 + read32 bs) (length bs) (both (ltb 0 (read32 bs)) _ t).1))
+    (λ t. (t, whole_true bs t, leb-true (4 + read32 bs) (length bs) (and_both (ltb 0 (read32 bs)) _ t).1))
     (λ t. let z = whole_false bs t in absurd (omega arith))
 
 -- WHOLE FRAMES, AND THEIR MESSAGES
@@ -193,9 +184,6 @@ pub record Left (used room : ℕ) (bs : List ℕ) (at count : ℕ) : Type 0 wher
   pub frames : fitting room (messages_of used bs) ≡ count + fitting (room - at) (messages_of used (drop at bs))
   pub bytes : fitting_bytes room (messages_of used bs) ≡ at + fitting_bytes (room - at) (messages_of used (drop at bs))
 
-pub left-start : (used room : ℕ) (bs : List ℕ) → whole_frames used bs ≡ true → Left used room bs 0 0
-left-start used room bs w = record { whole = w; frames = simp (sub-zero, zero-add); bytes = simp (sub-zero, zero-add) }
-
 module _ {used room at count : ℕ} {bs : List ℕ} (l : Left used room bs at count) where
   -- what is found where nothing more fits
   done-frames : fitting (room - at) (messages_of used (drop at bs)) ≡ 0 → count ≡ fitting room (messages_of used bs)
@@ -206,9 +194,9 @@ module _ {used room at count : ℕ} {bs : List ℕ} (l : Left used room bs at co
       omega (arith, l.bytes, none_fit (room - at) (messages_of used (drop at bs)) e)
       ∙ ap (λ k. length (frames (take k (messages_of used bs)))) (sym (done-frames e))
 
-  pub left_end : length bs ≤ at → (count ≡ fitting room (messages_of used bs)) × (at ≡ length (frames (take count (messages_of used bs))))
+  all_passed : length bs ≤ at → (count ≡ fitting room (messages_of used bs)) × (at ≡ length (frames (take count (messages_of used bs))))
   unfolding T.fitting
-  left_end h =
+  all_passed h =
       let d : drop at bs ≡ [] = drop_of_length-le bs {i = at} h in
       let e : fitting (room - at) (messages_of used (drop at bs)) ≡ 0 = rw (d, messages_end used) in
       (done-frames e, done-bytes e)
@@ -217,7 +205,7 @@ module _ {used room at count : ℕ} {bs : List ℕ} (l : Left used room bs at co
     fits : length (drop at bs) ≤ used
     fits = omega (arith, length-drop at bs)
 
-    pub left-some : 0 < whole_at (drop at bs)
+    left-some : 0 < whole_at (drop at bs)
     left-some =
         by_test (ltb 0 (whole_at (drop at bs)))
         (λ t. ltb-true 0 (whole_at (drop at bs)) t)
@@ -246,3 +234,10 @@ module _ {used room at count : ℕ} {bs : List ℕ} (l : Left used room bs at co
           frames = omega (arith, l.frames, g.0);
           bytes = omega (arith, l.bytes, g.1);
         }
+
+  -- no whole frame stands at `at`: every byte is passed
+  pub left_end : length bs ≤ used → whole_at (drop at bs) ≡ 0 → (count ≡ fitting room (messages_of used bs)) × (at ≡ length (frames (take count (messages_of used bs))))
+  left_end u z =
+      by_test (ltb at (length bs))
+      (λ t. let some = left-some (ltb-true at (length bs) t) u in absurd (omega arith))
+      (λ t. all_passed (ltb-false at (length bs) t))

@@ -3,15 +3,14 @@
 
 #![tactic(auto)]
 
-ghost use Rattle.std.specs.Prelude.{◌≡◌, true, List, ℕ, min, ◌+◌, ◌-◌, ◌≤◌, ◌<◌, length, take, drop};
+ghost use Rattle.std.specs.Prelude.{◌≡◌, MatchOption, true, List, ℕ, ◌+◌, ◌-◌, ◌^◌, ◌≤◌, ◌<◌, length, take, drop};
 ghost use Rattle.octets.specs.Buf.{write};
-ghost use Rattle.channel.specs.declared.Kind.TheVariants.{Plain, Extended};
 ghost use Rattle.channel.specs.State.{most_bytes};
 ghost use Rattle.channel.specs.Wire.{data_message, adjust_message, eof_message, close_message, frame, frames, packets};
 ghost use Rattle.channel.specs.Step.{fitting};
 ghost use Rattle.channel.specs.Raw.{messages_of};
 ghost use Rattle.channel.specs.Sound.{whole_frames};
-ghost use Rattle.frames.specs.Frame.{over, head, whole_at};
+ghost use Rattle.frames.specs.Frame.{over, head, data_head, whole_at};
 
 use channel::{Kind, PeerNumber};
 use octets::{copy_in, put_u8, put_u32, read_u32};
@@ -46,6 +45,7 @@ pub fn size_of_run(kind: Kind, limit: u32, n: u32) -> u64
 }
 
 // What every frame here begins with: the length of the message, its number and the recipient.
+#[tactic(auto, using(crate::proofs::Packets::head_by))]
 fn put_head(dst: &mut [u8], at: usize, n: u32, number: u8, peer: PeerNumber)
     requires { at + 9 ≤ length dst.old }
     ensures { dst.new ≡ write at (head n number peer.0) dst.old }
@@ -56,6 +56,7 @@ fn put_head(dst: &mut [u8], at: usize, n: u32, number: u8, peer: PeerNumber)
 }
 
 // SSH_MSG_CHANNEL_EOF, 9 bytes in its frame.
+#[tactic(auto, using(crate::proofs::Packets::nine_by), unfolding(channel::specs::Wire::eof_message))]
 pub fn put_eof(dst: &mut [u8], at: usize, peer: PeerNumber)
     requires { at + 9 ≤ length dst.old }
     ensures { dst.new ≡ write at (frame (eof_message peer.0)) dst.old }
@@ -63,7 +64,8 @@ pub fn put_eof(dst: &mut [u8], at: usize, peer: PeerNumber)
     put_head(dst, at, 5, 96, peer);
 }
 
-// SSH_MSG_CHANNEL_CLOSE, 9 bytes in its frame.
+// SSH_MSG_CHANNEL_CLOSE, 9 bytes in its frame. It differs from EOF in a number, which callers would have to give in place of a name.
+#[tactic(auto, using(crate::proofs::Packets::nine_by), unfolding(channel::specs::Wire::close_message))]
 pub fn put_close(dst: &mut [u8], at: usize, peer: PeerNumber)
     requires { at + 9 ≤ length dst.old }
     ensures { dst.new ≡ write at (frame (close_message peer.0)) dst.old }
@@ -72,6 +74,7 @@ pub fn put_close(dst: &mut [u8], at: usize, peer: PeerNumber)
 }
 
 // SSH_MSG_CHANNEL_WINDOW_ADJUST, 13 bytes in its frame.
+#[tactic(auto, using(crate::proofs::Packets::adjust_by))]
 pub fn put_adjust(dst: &mut [u8], at: usize, peer: PeerNumber, add: u32)
     requires { at + 13 ≤ length dst.old }
     ensures { dst.new ≡ write at (frame (adjust_message peer.0 add)) dst.old }
@@ -80,47 +83,33 @@ pub fn put_adjust(dst: &mut [u8], at: usize, peer: PeerNumber, add: u32)
     put_u32(dst, at + 9, add);
 }
 
-// SSH_MSG_CHANNEL_DATA, 13 bytes over the data. The buffer's limit keeps the lengths within 32 bits.
-fn put_plain(dst: &mut [u8], at: usize, peer: PeerNumber, src: &[u8])
-    requires { (at + (length src.now + 13) ≤ length dst.old) × (length dst.old ≤ most_bytes) }
-    ensures { dst.new ≡ write at (frame (data_message Plain peer.0 src.now)) dst.old }
+// What stands before a data packet's string of n bytes: SSH_MSG_CHANNEL_DATA or SSH_MSG_CHANNEL_EXTENDED_DATA, the recipient, and an
+// extended packet's code.
+#[tactic(auto, using(crate::proofs::Packets::after_head), unfolding(crate::specs::Frame::data_head))]
+fn put_data_head(dst: &mut [u8], at: usize, kind: Kind, peer: PeerNumber, n: u32)
+    requires { (at + over kind ≤ length dst.old) × (n + 13 < 2 ^ 32) }
+    ensures { dst.new ≡ write at (data_head kind peer.0 n) dst.old }
 {
-    let n = src.len();
-    let count = n as u32;
-    put_head(dst, at, count + 9, 94, peer);
-    put_u32(dst, at + 9, count);
-    copy_in(dst, at + 13, src);
+    match kind {
+        Kind::Plain => put_head(dst, at, n + 9, 94, peer),
+        Kind::Extended(code) => {
+            put_head(dst, at, n + 13, 95, peer);
+            put_u32(dst, at + 9, code);
+        }
+    }
 }
 
-// SSH_MSG_CHANNEL_EXTENDED_DATA, 17 bytes over the data.
-fn put_extended(dst: &mut [u8], at: usize, peer: PeerNumber, code: u32, src: &[u8])
-    requires { (at + (length src.now + 17) ≤ length dst.old) × (length dst.old ≤ most_bytes) }
-    ensures { dst.new ≡ write at (frame (data_message (Extended code) peer.0 src.now)) dst.old }
-{
-    let n = src.len();
-    let count = n as u32;
-    put_head(dst, at, count + 13, 95, peer);
-    put_u32(dst, at + 9, code);
-    put_u32(dst, at + 13, count);
-    copy_in(dst, at + 17, src);
-}
-
-// One data packet of either kind.
+// One data packet, 13 bytes over the data or 17. The buffer's limit keeps the lengths within 32 bits.
+#[tactic(auto, using(crate::proofs::Packets::data_by))]
 fn put_packet(dst: &mut [u8], at: usize, kind: Kind, peer: PeerNumber, src: &[u8])
     requires { (at + (length src.now + over kind) ≤ length dst.old) × (length dst.old ≤ most_bytes) }
     ensures { dst.new ≡ write at (frame (data_message kind peer.0 src.now)) dst.old }
 {
-    match kind {
-        Kind::Plain => put_plain(dst, at, peer, src),
-        Kind::Extended(code) => put_extended(dst, at, peer, code, src),
-    }
-}
-
-// The smaller of two numbers.
-pub fn smaller(a: usize, b: usize) -> usize
-    ensures { result ≡ min a b }
-{
-    if a < b { a } else { b }
+    let over = overhead(kind);
+    let n = src.len() as u32;
+    put_data_head(dst, at, kind, peer, n);
+    put_u32(dst, at + over - 4, n);
+    copy_in(dst, at + over, src);
 }
 
 // All of src in packets of the limit, the last one shorter. The answer is the place after them.
@@ -136,39 +125,30 @@ pub fn put_run(
     ensures dst_after { dst.new ≡ write at (frames (packets kind peer.0 limit src.now)) dst.old }
     ensures value { result ≡ at + length (frames (packets kind peer.0 limit src.now)) }
 {
-    let n = src.len();
-    let most = limit as usize;
     let over = overhead(kind);
-    let mut off = 0;
     let mut pos = at;
-    while off < n {
-        let m = smaller(n - off, most);
-        let e = off + m;
-        put_packet(dst, pos, kind, peer, &src[off..e]);
-        pos = pos + m + over;
-        off = e;
+    for chunk in src.chunks(limit as usize) {
+        put_packet(dst, pos, kind, peer, chunk);
+        pos += chunk.len() + over;
     }
     pos
 }
 
-// The bytes of the frame at `at`, where it is whole within the used part and not empty; else 0.
-pub fn frame_at(staged: &[u8], used: usize, at: usize) -> usize
+// The bytes of the frame at `at`, where it is whole within the used part and not empty.
+pub fn frame_at(staged: &[u8], used: usize, at: usize) -> Option<usize>
     requires { (at ≤ used) × (used ≤ length staged.now) }
-    ensures value { result ≡ whole_at (drop at (take used staged.now)) }
-    ensures upper_bound { result ≤ used - at }
+    ensures { MatchOption result (whole_at (drop at (take used staged.now)) ≡ 0)
+        (λ n. (n ≡ whole_at (drop at (take used staged.now))) × (0 < n) × (n ≤ used - at)) }
 {
     let left = used - at;
     if left < 5 {
-        return 0;
+        return None;
     }
     let n = read_u32(staged, at) as usize;
-    if left - 4 < n {
-        return 0;
+    if n == 0 || left - 4 < n {
+        return None;
     }
-    if n == 0 {
-        return 0;
-    }
-    n + 4
+    Some(n + 4)
 }
 
 // The longest front run of staged's frames that fits the room.
@@ -177,21 +157,16 @@ pub fn front_run(staged: &[u8], used: usize, room: usize) -> Front
     ensures fitting_run { (result.frames ≡ fitting room (messages_of used (take used staged.now))) × (result.bytes ≡ length (frames (take result.frames (messages_of used (take used staged.now))))) }
     ensures bounds { (result.bytes ≤ used) × (result.bytes ≤ room) }
 {
-    let mut at = 0;
-    let mut count = 0;
-    while at < used {
-        let n = frame_at(staged, used, at);
-        if room - at < n {
-            return Front {
-                frames: count,
-                bytes: at,
-            };
+    let mut run = Front {
+        frames: 0,
+        bytes: 0,
+    };
+    while let Some(n) = frame_at(staged, used, run.bytes) {
+        if room - run.bytes < n {
+            break;
         }
-        at += n;
-        count += 1;
+        run.bytes += n;
+        run.frames += 1;
     }
-    Front {
-        frames: count,
-        bytes: at,
-    }
+    run
 }

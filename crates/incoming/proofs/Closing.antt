@@ -1,34 +1,27 @@
--- What taking a 97 in comes to, from what the code found: one law for each return. Where the channel has no entry none goes.
+-- What taking a 97 in comes to: one law for each way out. Where the channel has no entry none goes.
 -- Assumes nothing.
-use Prim.Native.Nat.{ℕ, ◌+◌, ◌-◌, ◌^◌, ◌≤◌, ◌<◌}
-use mathlib.Core.Path.{◌≡◌, refl, sym, ap, ◌∙◌}
-use mathlib.Core.Bool.{Bool, true, false}
-use mathlib.Core.List.{List, [], ◌∷◌}
-use lib.ListN.{length}
+use Rattle.std.proofs.Common.{ℕ, ◌+◌, ◌≤◌, ◌<◌, ◌≡◌, refl, sym, ap, ◌∙◌, true, false, List, [], ◌∷◌, length, Ok, Err, arith}
 use lib.Dec.{eqb}
-use native.Mathlib.Omega.{arith}
 use Rattle.laws.proofs.Tests.{or_neither}
 use Rattle.octets.specs.Buf.{write}
 use Rattle.channel.specs.declared.Entry as E
-use Rattle.channel.specs.declared.Table as D
-use Rattle.channel.specs.declared.Record.{Record}
 use Rattle.channel.specs.declared.Message.TheVariants.{Close}
 use Rattle.channel.specs.declared.ChannelId.{ChannelId}
-use Rattle.channel.specs.declared.Refusal.TheVariants.{Unconfirmed, Room}
-use Rattle.channel.specs.declared.Taken.TheVariants.{Took, Refused}
+use Rattle.channel.specs.declared.Refusal.{Refusal}
 use Rattle.channel.specs.Wire.{frame, frames, close_message}
-use Rattle.channel.specs.State.{Entry, peer_of, any_entry, without}
+use Rattle.channel.specs.State.{Table, Entry, peer_of, any_entry, without}
 use Rattle.channel.specs.State as S
-use Rattle.channel.specs.Call.{Call, gave, message, closed}
+use Rattle.channel.specs.Call.{message, closed, act, incoming}
 use Rattle.channel.specs.Change.{removed, with_entries}
-use Rattle.channel.specs.Change as C
-use Rattle.channel.specs.Decide.{staging, is_confirmed, taken_in}
+use Rattle.channel.specs.Change as H
+use Rattle.channel.specs.Decide.{staging, is_confirmed}
 use Rattle.channel.specs.Decide as G
 use Rattle.channel.specs.Step.{step, apply}
-use Rattle.channel.specs.Raw.{Raw, entries_of, meaning, zero_record}
+use Rattle.channel.specs.Raw.{Raw, entries_of, meaning}
 use Rattle.channel.specs.Raw as R
-use Rattle.channel.specs.Sound.{is_sound}
-use Rattle.channel.specs.Called.{Typed, called, lent, outcome}
+use Rattle.channel.specs.Called.{outcome}
+use Rattle.channel.specs.Read.{reads, read_message}
+use Rattle.channel.specs.Answers.{message_of}
 use Rattle.channel.specs.Answers as A
 use Rattle.channel.proofs.Entries.{less_without, without_miss}
 use Rattle.frames.proofs.Packets.{frames_one, length-close}
@@ -37,15 +30,15 @@ use Rattle.lookup.specs.Update.{filed, place_freed, staged_more}
 use Rattle.lookup.proofs.Decided.{confirmed-is, has_is, held_fails, held_passes}
 use Rattle.lookup.proofs.Bridge.{Rows, freed_places, same_rows}
 use Rattle.lookup.proofs.Framed.{put-frame}
-use Rattle.lookup.proofs.Branch.{control-is, full}
-use Rattle.passes.specs.declared.Kept.{Kept}
-use Rattle.passes.specs.Keep.{Base, keeps, queue_with, kept_with, table_with}
+use Rattle.lookup.proofs.Branch as B
+use Rattle.soundness.specs.declared.Found.{Found}
+use Rattle.soundness.specs.Sees.{Sees}
+use Rattle.passes.specs.Keep.{keeps, queue_with, table_with}
 use Rattle.passes.specs.Pass.{entries_in}
-use Rattle.passes.proofs.Rows.{kept_rows}
-use Rattle.passes.proofs.PassLaws.{dropped_by, kept_table}
-use Rattle.incoming.specs.declared.Heard.{Heard}
-use Rattle.incoming.specs.Takes.{heard_same, heard_table, table_left, queue_left, Here, TakesWith, Takes}
-use Rattle.incoming.proofs.Taking.{same-table, alike, refuses}
+use Rattle.passes.proofs.Rows.{base_of, kept_rows}
+use Rattle.passes.proofs.PassLaws.{dropped_by}
+use Rattle.incoming.specs.Takes.{heard, Comes}
+use Rattle.incoming.proofs.Taking.{read_is, refuses}
 
 -- a channel with no entry leaves them all
 without-none : (n : ℕ) (es : List Entry) → any_entry n es ≡ false → without n es ≡ es
@@ -53,84 +46,51 @@ unfolding S.any_entry
 without-none n [] h = unfold S.without in refl
 without-none n (e ∷ es) h = let z = or_neither (eqb e.number n) _ h in without_miss n e es z.0 ∙ ap (λ l. e ∷ l) (without-none n es z.1)
 
--- what the CLOSE comes to
-abbrev pub heard_closed : D.Table → ChannelId → ℕ → Bool → Heard
-heard_closed t n i waits = record { answer = Took (Close n); used = t.used - 2 ^ i; at = i; params = zero_record; staged_used = t.staged_used + 9; drops = waits; number = n.0 }
-
-module _ (t : D.Table) (n : ChannelId) (i : ℕ) (c : Record) (h : Here t n.0 i c) where
-  pub unconfirmed_97 : c.confirmed ≡ false → Takes t (Close n) (heard_same t (Refused Unconfirmed))
+module _ {r : Raw} {x : Found} (n : ChannelId) (s : Sees r n.0 (Ok x)) where
+  pub unconfirmed : (record_at r.held x.place).confirmed ≡ false → Comes r (Close n) (outcome (heard (Close n) (Err Refusal.Unconfirmed)) r.held r.queue r.staged r.sent)
   unfolding G.taken_in A.message_of A.refusal_number
-  unconfirmed_97 e = refuses t (Close n) Unconfirmed (λ q st se. held_fails (lent t q st se) _ i h.0 is_confirmed _ (confirmed-is _ ∙ alike h.1 e))
+  unconfirmed e = refuses (Close n) s Refusal.Unconfirmed (held_fails r _ x.place s.is.held is_confirmed _ (confirmed-is _ ∙ e))
 
-  module _ (e : c.confirmed ≡ true) (st : List ℕ) where
+  module _ (f : (record_at r.held x.place).confirmed ≡ true) where
     -- the CLOSE, of 9 bytes in its frame
     abbrev bytes : List ℕ
-    bytes = close_message (peer_of (record_at t i))
+    bytes = close_message (peer_of (record_at r.held x.place))
 
     nine : length (frames (bytes ∷ [])) ≡ 9
-    nine = ap length (frames_one bytes) ∙ length-close (peer_of (record_at t i))
+    nine = ap length (frames_one bytes) ∙ length-close (peer_of (record_at r.held x.place))
 
     -- the definition's table after it
-    abbrev left : Raw → S.Table
-    left r = with_entries (removed (meaning r).table (record_at t i)) (without n.0 (meaning r).table.entries)
+    abbrev after : Table
+    after = with_entries (removed (meaning r).table (record_at r.held x.place)) (without n.0 (meaning r).table.entries)
 
-    closes : (q se : List ℕ) → taken_in (meaning (lent t q st se)).table (closed n.0) ≡ staging (message (closed n.0)) (left (lent t q st se)) (bytes ∷ [])
-    unfolding G.taken_in
-    closes q se = held_passes (lent t q st se) _ i h.0 is_confirmed _ (confirmed-is _ ∙ alike h.1 e)
+    closes : (p : List ℕ) → reads (message_of (Close n)) ≡ read_message p → step (meaning r) (act (incoming p)) ≡ apply (meaning r) false (staging (message (closed n.0)) after (bytes ∷ []))
+    unfolding G.taken_in A.message_of
+    closes p e = read_is r p (Close n) e ∙ ap (apply (meaning r) false) (held_passes r _ x.place s.is.held is_confirmed _ (confirmed-is _ ∙ f))
 
-    pub full_97 : length st < t.staged_used + 9 → TakesWith t st (Close n) (heard_same t (Refused Room)) st
-    unfolding A.taken A.message_of A.refusal A.refusal_number table_left queue_left
-    full_97 l =
-        record {
-          place = omega arith;
-          is =
-              λ q se k ty sd d.
-              let r = lent t q st se in
-              ap (λ x. outcome (A.refusal Room) x q st se) (same-table t (Refused Room))
-              ∙ sym (full r ty sd k false (message (closed n.0)) (left r) (bytes ∷ []) (d ∙ ap (apply (meaning r) false) (closes q se)) (omega (arith, nine)));
-        }
+    pub full : length r.staged < r.held.staged_used + 9 → Comes r (Close n) (outcome (heard (Close n) (Err Refusal.Room)) r.held r.queue r.staged r.sent)
+    unfolding A.answer A.refusal A.refusal_number
+    full l p e = sym (B.full r s.typed s.is.sound (act (incoming p)) false (message (closed n.0)) after (bytes ∷ []) (closes p e) (omega (arith, nine)))
 
     -- with room the CLOSE is staged and the place is free, whatever the entries come to
-    put : (q se : List ℕ) (k : Call) → Typed (lent t q st se) → is_sound (lent t q st se) ≡ true
-        → step (meaning (lent t q st se)) k ≡ apply (meaning (lent t q st se)) false (taken_in (meaning (lent t q st se)).table (closed n.0))
-        → t.staged_used + 9 ≤ length st
-        → {rows : List E.Entry} {x y : ℕ} {q' : List ℕ} → Rows (lent t q st se) (without n.0 (meaning (lent t q st se)).table.entries) rows x y q'
-        → outcome (gave (message (closed n.0))) (staged_more (filed (place_freed t i) rows x y) 9) q' (write t.staged_used (frame bytes) st) se ≡ called (lent t q st se) k
-    unfolding C.removed C.with_places C.with_entries R.meaning
-    put q se k ty sd d l rs =
-        let r = lent t q st se in
-        sym (control-is r ty sd k false (message (closed n.0)) (left r) (bytes ∷ []) (d ∙ ap (apply (meaning r) false) (closes q se)) (omega (arith, nine))
-        (freed_places r ty sd n.0 i h.0)
+    put : r.held.staged_used + 9 ≤ length r.staged → {rows : List E.Entry} {a b : ℕ} {q : List ℕ} → Rows r (without n.0 (meaning r).table.entries) rows a b q
+        → Comes r (Close n) (outcome (heard (Close n) (Ok tt)) (staged_more (filed (place_freed r.held x.place) rows a b) 9) q (write r.held.staged_used (frame bytes) r.staged) r.sent)
+    unfolding A.answer A.message_of H.removed H.with_places H.with_entries R.meaning
+    put l rs p e =
+        sym (B.control-is r s.typed s.is.sound (act (incoming p)) false (message (closed n.0)) after (bytes ∷ []) (closes p e) (omega (arith, nine))
+        (freed_places r s.typed s.is.sound n.0 x.place s.is.held)
         rs
-        (put-frame t.staged_used st bytes (length-close (peer_of (record_at t i))) l))
+        (put-frame r.held.staged_used r.staged bytes (length-close (peer_of (record_at r.held x.place))) l))
 
-    took : (waits : Bool) → waits ≡ any_entry n.0 (entries_of t.entry_count t.entries []) → t.staged_used + 9 ≤ length st
-        → TakesWith t st (Close n) (heard_closed t n i waits) (write t.staged_used (frame bytes) st)
-    unfolding A.taken A.message_of R.meaning table_with table_left queue_left
-    took true w l =
-        record {
-          place = h.0.place;
-          is = λ q se k ty sd d. put q se k ty sd d l (kept_rows (lent t q st se) ty sd (less_without n.0 (entries_in t q)));
-        }
-    took false w l =
-        record {
-          place = h.0.place;
-          is = λ q se k ty sd d. let r = lent t q st se in put q se k ty sd d l (rw (without-none n.0 (meaning r).table.entries (has_is r n.0 ∙ sym w)) (same_rows r ty sd));
-        }
+    pub empty : r.held.staged_used + 9 ≤ length r.staged → x.waits ≡ false
+        → Comes r (Close n) (outcome (heard (Close n) (Ok tt)) (staged_more (place_freed r.held x.place) 9) r.queue (write r.held.staged_used (frame bytes) r.staged) r.sent)
+    empty l w = put l (rw (without-none n.0 (meaning r).table.entries (has_is r n.0 ∙ sym s.is.waits_is ∙ w)) (same_rows r s.typed s.is.sound))
 
-    pub took_97 : (waits : Bool) → waits ≡ any_entry n.0 (entries_of t.entry_count t.entries []) → t.staged_used + 9 ≤ length st
-        → TakesWith t st (Close n) (heard_closed t n i waits) (write t.staged_used (frame (close_message (peer_of c))) st)
-    took_97 waits w l = rw h.1 (took waits w l)
-
--- WHERE ENTRIES GO, a compaction with a window of the whole queue keeps nothing of the channel
-module _ (t : D.Table) (q : List ℕ) (h : Heard) (e : h.drops ≡ true) (b : Base t.entries t.entry_count q t.queue_used) where
-  abbrev kept : List Entry
-  kept = keeps h.number true t.queue_used (entries_of t.entry_count t.entries q)
-
-  pub table_dropped : (k : Kept) → k ≡ kept_with kept t.entry_count t.entries → filed (heard_table t h) k.entries k.count k.used ≡ table_left t q h
-  unfolding table_left
-  table_dropped k f = rw e (kept_table k (heard_table t h) _ _ refl (f ∙ ap (λ ks. kept_with ks t.entry_count t.entries) (dropped_by t q b h.number)))
-
-  pub queue_dropped : (q' : List ℕ) → q' ≡ queue_with kept t.queue_used q → q' ≡ queue_left t q h
-  unfolding queue_left
-  queue_dropped q' f = f ∙ rw e (ap (λ ks. queue_with ks t.queue_used q) (dropped_by t q b h.number))
+    -- the compaction, with a window of the whole queue, keeps nothing of the channel
+    pub drops : r.held.staged_used + 9 ≤ length r.staged
+        → let ks = keeps n.0 true r.held.queue_used (entries_of r.held.entry_count r.held.entries r.queue) in
+        Comes r (Close n)
+        (outcome (heard (Close n) (Ok tt)) (table_with ks (staged_more (place_freed r.held x.place) 9)) (queue_with ks r.held.queue_used r.queue) (write r.held.staged_used (frame bytes) r.staged) r.sent)
+    unfolding R.meaning table_with
+    drops l =
+        rw (dropped_by r.held r.queue (base_of r s.typed s.is.sound) n.0)
+        (put l (kept_rows r s.typed s.is.sound (less_without n.0 (entries_in r.held r.queue))))

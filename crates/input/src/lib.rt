@@ -18,14 +18,15 @@ fn read_at<R: Read>(reader: &mut R, buf: &mut [u8], at: usize) -> io::Result<usi
     reader.read(&mut buf[at..])
 }
 
-// Reads until the buffer is full or the reader ends. Answers how many bytes came: they stand at the buffer's start, one after the other. What
-// stands behind them, and what a failed read left, is not said.
+// Reads until the buffer is full or the reader ends. Answers how many bytes came: they stand at the buffer's start, one after the other.
+// What stands behind them, and what a failed read left, is not said.
 pub fn read_full<R: Read>(reader: &mut R, buf: &mut [u8]) -> io::Result<usize>
     ensures within { IfOk result (λ n. n ≤ length buf.new) }
     ensures bytes { IfOk result (λ n. Consumes (R.remaining reader.old) (R.remaining reader.new) (take n buf.new)) }
     ensures end { IfOk result (λ n. n < length buf.new → IsAtEnd (R.remaining reader.new)) }
 {
     let mut at = 0;
+    // A loop by hand: each step is as long as the read that came, so no range or iterator counts it.
     while at < buf.len() {
         let n = read_at(reader, buf, at)?;
         if n == 0 {

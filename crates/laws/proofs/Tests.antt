@@ -1,7 +1,8 @@
 -- Tests, and what follows from their answers.
 -- Assumes nothing.
 use mathlib.Core.Path.{◌≡◌, refl, sym, ◌∙◌}
-use mathlib.Core.Bool.{Bool, true, false, ◌&&◌, ◌||◌, not, true≢false}
+pub use Rattle.std.proofs.lemmas.Bool.{and_parts as and_both, and_from as and_of, or_parts as or_neither}
+use mathlib.Core.Bool.{Bool, true, false, ◌||◌, not, true≢false}
 
 -- by cases of a test
 pub by_test : {A : Type 0} (b : Bool) → (b ≡ true → A) → (b ≡ false → A) → A
@@ -11,17 +12,6 @@ by_test false f g = g refl
 -- a test that answers both ways
 pub shut : {A : Type 0} (b : Bool) → b ≡ false → b ≡ true → A
 shut b e f = absurd (true≢false (sym f ∙ e))
-
-pub and_both : (a b : Bool) → a && b ≡ true → (a ≡ true) × (b ≡ true)
-and_both true b e = (refl, e)
-and_both false b e = absurd (true≢false (sym e))
-
-pub and_of : (a b : Bool) → a ≡ true → b ≡ true → a && b ≡ true
-and_of a b e f = rw (e, f)
-
-pub or_neither : (a b : Bool) → a || b ≡ false → (a ≡ false) × (b ≡ false)
-or_neither true b e = absurd (true≢false e)
-or_neither false b e = (refl, e)
 
 pub or_second : (a : Bool) {b : Bool} → b ≡ true → a || b ≡ true
 or_second true e = refl

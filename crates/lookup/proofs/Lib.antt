@@ -5,4 +5,4 @@ pub mod Decided
 pub mod Branch
 pub mod Payload
 pub mod Framed
-pub mod Changes
+pub mod Out

@@ -12,7 +12,6 @@ use Rattle.laws.proofs.Tests.{by_test}
 use Rattle.channel.specs.declared.Kind.{Kind}
 use Rattle.channel.specs.declared.Record.{Record}
 use Rattle.channel.specs.declared.Entry as E
-use Rattle.channel.specs.declared.Table as D
 use Rattle.channel.specs.Wire.{frames}
 use Rattle.channel.specs.Wire as W
 use Rattle.channel.specs.State.{most_entries, number_of, Table, queued}
@@ -28,7 +27,8 @@ use Rattle.channel.specs.Raw as R
 use Rattle.channel.specs.Sound.{is_sound}
 use Rattle.channel.specs.Called.{Typed, called, outcome}
 use Rattle.lookup.specs.Held.{HeldAt, record_at}
-use Rattle.lookup.specs.Update.{filed, record_set, entry_pushed, staged_more, sent_more}
+use Rattle.lookup.specs.Update.{filed, record_set, entry_pushed}
+use Rattle.lookup.specs.Out.{out_more}
 use Rattle.lookup.proofs.Limits.{limits}
 use Rattle.lookup.proofs.Bridge.{behind, put_some, put-none, put_as, same-places, changed_places, Rows, entry, row, same_rows, pushed-count, pushed-used, pushed_rows}
 use Rattle.lookup.proofs.Branch.{Enters, Lacks, sent, staged, entries, bytes, lacking, gone, to-staged, to-sent}
@@ -57,10 +57,6 @@ rest_some n kind [] h = absurd (omega arith)
 rest_some n kind (b ∷ bs) h = (refl, refl)
 
 -- MESSAGES THAT MAY GO STRAIGHT: into sent where b is true, else into staged
-
-abbrev pub out_more : Bool → D.Table → ℕ → D.Table
-out_more true t n = sent_more t n
-out_more false t n = staged_more t n
 
 abbrev pub staged_after : Bool → Raw → List ℕ → List ℕ
 staged_after true r bs = r.staged

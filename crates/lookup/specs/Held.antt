@@ -1,13 +1,11 @@
 -- What the lookups tell their callers: where a channel's record stands, and which place a new one takes.
 -- Assumes nothing.
-use Rattle.std.specs.Prelude.{ℕ, ◌<◌, ◌≡◌, true, false, List, get_or}
+use Rattle.std.specs.Prelude.{ℕ, ◌<◌, ◌≡◌, true, false, List, get_or, Option, Some, None}
 use Rattle.laws.specs.Bits.{bit}
 use Rattle.channel.specs.declared.Record.{Record}
 use Rattle.channel.specs.declared.Table as D
 use Rattle.channel.specs.State.{place_count, number_of, vacant, holds, nowhere, found, look}
 use Rattle.channel.specs.Raw.{places_of, zero_record}
-use Rattle.lookup.specs.declared.Seat.{Seat}
-use Rattle.lookup.specs.declared.Seat.TheVariants as S
 
 abbrev pub record_at : D.Table → ℕ → Record
 record_at t i = get_or t.records i zero_record
@@ -23,10 +21,10 @@ pub record HeldIn (marks : ℕ) (records : List Record) (n i : ℕ) : Type 0 whe
 abbrev pub HeldAt : D.Table → ℕ → ℕ → Type 0
 HeldAt t n i = HeldIn t.used t.records n i
 
--- what `seat_of` answers
-unfoldable pub Seats : ℕ → List Record → ℕ → Seat → Type 0
-Seats used records n (S.At i r) = HeldIn used records n i × (r ≡ get_or records i zero_record)
-Seats used records n S.Nothing = look n (places_of used records) ≡ nowhere
+-- where the record with the number n stands, if there is one
+abbrev pub PlaceIs : D.Table → ℕ → Option ℕ → Type 0
+PlaceIs t n (Some i) = HeldAt t n i
+PlaceIs t n None = look n (places_of t.used t.records) ≡ nowhere
 
 -- place i is the lowest free one
 pub record FreeAt (t : D.Table) (i : ℕ) : Type 0 where

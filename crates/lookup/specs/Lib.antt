@@ -1,4 +1,4 @@
 pub mod Held
 pub mod Update
 pub mod Limits
-pub mod Changed
+pub mod Out

@@ -8,22 +8,14 @@ use Rattle.laws.proofs.Lowest.{lowest-at, lowest-below}
 use Rattle.channel.specs.State.{place_count}
 use Rattle.channel.specs.declared.Table as D
 use Rattle.lookup.specs.Held.{FreeAt}
-use Rattle.numbers.specs.declared.Free.TheVariants.{Place, Full}
-use Rattle.numbers.specs.Picks.{Frees}
+use Rattle.numbers.specs.Picks.{Full}
 
-module _ (used i : ℕ) (e : i ≡ lowest (λ k. not (bit used k)) place_count) where
-  below : (k : ℕ) → k < i → bit used k ≡ true
-  below k h = not-false _ (lowest-below (λ k. not (bit used k)) place_count k (omega arith))
+module _ (t : D.Table) (i : ℕ) (e : i ≡ lowest (λ k. not (bit t.used k)) place_count) where
+  below : (k : ℕ) → k < i → bit t.used k ≡ true
+  below k h = not-false _ (lowest-below (λ k. not (bit t.used k)) place_count k (omega arith))
 
-  pub free-at : i < place_count → Frees used (Place i)
-  unfolding Frees
-  free-at h = (h, ap (bit used) e ∙ not-true _ (lowest-at (λ k. not (bit used k)) place_count (omega arith)), below)
+  pub free-at : i < place_count → FreeAt t i
+  free-at h = record { place = h; free = ap (bit t.used) e ∙ not-true _ (lowest-at (λ k. not (bit t.used k)) place_count (omega arith)); below = below }
 
-  pub free-none : place_count ≤ i → Frees used Full
-  unfolding Frees
+  pub free-none : place_count ≤ i → Full t
   free-none h k l = below k (omega arith)
-
--- as every call's branch law asks for it
-pub free_of : (t : D.Table) (i : ℕ) → Frees t.used (Place i) → FreeAt t i
-unfolding Frees
-free_of t i f = record { place = f.0; free = f.1; below = f.2 }

@@ -3,13 +3,15 @@
 -- Assumes nothing.
 use mathlib.Core.Path.{◌≡◌, refl, sym, ap, ◌∙◌}
 use mathlib.Core.List.{List, [], ◌∷◌, ◌++◌, append_assoc}
-use Prim.Native.Nat.{ℕ, zero, suc, ◌+◌, ◌*◌, ◌/◌, ◌%◌, ◌≤◌, ◌<◌}
-use native.Mathlib.Nat.{zero-add, suc-add, add-zero, div-div-eq-div-mul, div-add-mod', mod-eq_of_lt, div-lt_iff_lt-mul}
+use Prim.Native.Nat.{ℕ, suc, ◌+◌, ◌-◌, ◌≤◌, ◌<◌}
+use native.Mathlib.Nat.{add-zero}
 use native.Mathlib.Numerals.{add-one}
 use native.Mathlib.Omega.{arith}
-use lib.Dec.{lit<}
-use lib.ListN.{length, take, drop, set, replicate, get_or, length-set, length-append, length-drop, length-replicate, take-append-drop}
-use lib.Seq.{sets, take-nil, length-take-le, drop-cons, drop-drop, drop-set-lt, get_or-drop, get_or-take, sets-eq, take-add, take_at, drop_at, drop-append-add, drop-length}
+use lib.ListN.{length, take, drop, set, replicate, length-set, length-append, length-drop, length-replicate, take-append-drop}
+use lib.Seq.{sets, length-take-le, drop-drop, sets-eq, take-add, take_at, drop_at, drop-append-add}
+use Rattle.std.specs.List.{copy_within, FoldsTo}
+pub use Rattle.std.proofs.lemmas.List.{drop-take}
+use Rattle.std.proofs.lemmas.Nat.{from_be_bytes-to_be_bytes_4}
 use Rattle.octets.specs.Buf.{write, be32, de32, closed}
 
 -- WRITING
@@ -44,12 +46,6 @@ write_sets at (x ∷ xs) l = rw (add-one at) (write_sets (suc at) xs (set l at x
 pub write_eq : (at : ℕ) (xs l : List ℕ) → at + length xs ≤ length l → write at xs l ≡ take at l ++ xs ++ drop (at + length xs) l
 write_eq at xs l h = write_sets at xs l ∙ sets-eq xs l at h
 
--- the used part grown by the run, and the rest
-pub take-write : (at : ℕ) (xs l : List ℕ) → at + length xs ≤ length l → take (at + length xs) (write at xs l) ≡ take at l ++ xs
-take-write at xs l h =
-    let n : length (take at l ++ xs) ≡ at + length xs = length-append (take at l) xs ∙ ap (λ k. k + length xs) (length-take-le at l (omega arith)) in
-    rw (write_eq at xs l h) (take_at (take at l ++ xs) (drop (at + length xs) l) (at + length xs) n)
-
 pub drop-write : (at : ℕ) (xs l : List ℕ) → at + length xs ≤ length l → drop (at + length xs) (write at xs l) ≡ drop (at + length xs) l
 drop-write at xs l h =
     let n : length (take at l ++ xs) ≡ at + length xs = length-append (take at l) xs ∙ ap (λ k. k + length xs) (length-take-le at l (omega arith)) in
@@ -61,53 +57,43 @@ write-behind used xs rest h =
     let l = length-append used rest in
     rw (write_eq (length used) xs (used ++ rest) (omega arith), take_at used rest (length used) refl, drop-append-add used rest (length xs))
 
--- LOOPS THAT WRITE
+-- WHAT THE LIBRARY'S METHODS LEAVE
 
--- one turn of a loop that stores src from `at` on
-pub write_step : (at j : ℕ) (src dst : List ℕ) → j < length src
-    → write (at + j) (drop j src) dst ≡ write (at + (j + 1)) (drop (j + 1) src) (set dst (at + j) (get_or src j 0))
-unfolding write
-write_step at j src dst h =
-    let e : at + (j + 1) ≡ at + j + 1 = omega arith in
-    rw (drop-cons src j 0 h, e, add-one j)
+-- a part given other bytes
+pub write_part : {new : List ℕ} (at n : ℕ) (xs l : List ℕ) → new ≡ xs → n ≡ length xs → at + length xs ≤ length l
+    → take at l ++ (new ++ drop n (drop at l)) ≡ write at xs l
+write_part at n xs l e k h = rw (e, k, drop-drop (length xs) at l) (sym (write_eq at xs l h ∙ append_assoc (take at l) xs (drop (at + length xs) l)))
 
--- no turn, and the last
-pub write-start : (at : ℕ) (src dst : List ℕ) → write at src dst ≡ write (at + 0) (drop 0 src) dst
-write-start at src dst = rw (add-zero at)
+-- a part filled by a closure that gives one value
+filled : {F : Type 0} (step : F → ℕ → F → Type 0) (v : ℕ) → ((p : F) (x : ℕ) (q : F) → step p x q → x ≡ v) → (p q : F) (xs : List ℕ)
+    → FoldsTo step p xs q → xs ≡ replicate (length xs) v
+filled step v h p q [] r = refl
+filled step v h p q (x ∷ xs) r = λ i. h p x r.0 r.1 i ∷ filled step v h r.0 q xs r.2 i
 
-pub write_end : (at j : ℕ) (src dst : List ℕ) → j ≡ length src → write (at + j) (drop j src) dst ≡ dst
-write_end at j src dst e = rw (e, drop-length src) (write-nil (at + length src) dst)
+pub write_filled : {F : Type 0} (step : F → ℕ → F → Type 0) (v at n k : ℕ) (new l : List ℕ) → ((p : F) (x : ℕ) (q : F) → step p x q → x ≡ v)
+    → (p : F) → (q : F) × FoldsTo step p new q → length new ≡ length (take k (drop at l)) → k ≡ n → at + n ≤ length l
+    → take at l ++ (new ++ drop k (drop at l)) ≡ write at (replicate n v) l
+write_filled step v at n k new l h p r m e fits =
+    let len : length new ≡ n = m ∙ length-take-le k (drop at l) (simp length-drop (omega arith)) ∙ e in
+    let z : length (replicate n v) ≡ n = length-replicate n v in
+    write_part at k (replicate n v) l (filled step v h p r.0 new r.1 ∙ ap (λ j. replicate j v) len) (e ∙ sym z) (omega arith)
 
--- one turn of a loop that moves bytes down in one buffer: from at + j on the buffer is as it was
-pub moved_byte : (at gap n j : ℕ) (l b : List ℕ) → drop (at + j) b ≡ drop (at + j) l → j < n
-    → get_or b (at + gap + j) 0 ≡ get_or (take n (drop (at + gap) l)) j 0
-moved_byte at gap n j l b e h =
-    let e1 : at + gap + j ≡ at + j + gap = omega arith in
-    rw (get_or-take n (drop (at + gap) l) j 0 h, get_or-drop (at + gap) l j 0, e1, ← get_or-drop (at + j) b gap 0, ← get_or-drop (at + j) l gap 0, e)
+-- bytes copied within a buffer
+pub write_moved : {new : List ℕ} (at from n : ℕ) (l : List ℕ) → new ≡ copy_within l from (from + n) at → from + n ≤ length l → at + n ≤ length l
+    → new ≡ write at (take n (drop from l)) l
+write_moved at from n l e h k =
+    let c : from + n - from ≡ n = omega arith in
+    let m : length (take n (drop from l)) ≡ n = length-take-le n (drop from l) (simp length-drop (omega arith)) in
+    e ∙ rw c (sym (write_eq at (take n (drop from l)) l (omega arith) ∙ rw m))
 
-pub moved-rest : (at j v : ℕ) (l b : List ℕ) → drop (at + j) b ≡ drop (at + j) l
-    → drop (at + (j + 1)) (set b (at + j) v) ≡ drop (at + (j + 1)) l
-moved-rest at j v l b e =
-    let e1 : at + (j + 1) ≡ at + j + 1 = omega arith in
-    rw (e1, drop-set-lt (at + j + 1) b (at + j) v (omega arith), ← drop-drop 1 (at + j) b, ← drop-drop 1 (at + j) l, e)
-
--- bytes written where they stand
+-- bytes that stand in their place already
 pub write_same : (at gap n : ℕ) (l : List ℕ) → gap ≡ 0 → at + gap + n ≤ length l → l ≡ write at (take n (drop (at + gap) l)) l
 write_same at gap n l g h =
     let e : at + gap ≡ at = omega arith in
-    let X : List ℕ = take n (drop at l) in
-    let lx : length X ≡ n = length-take-le n (drop at l) (simp length-drop (omega arith)) in
-    let f : at + length X ≡ at + n = omega arith in
-    rw e
-    (sym (write_eq at X l (omega arith) ∙ rw (f, ← take-add at n l) (take-append-drop (at + n) l)))
+    let c : at + n - at ≡ n = omega arith in
+    rw e (write_moved at at n l (rw (c, ← take-add at n l) (sym (take-append-drop (at + n) l))) (omega arith) (omega arith))
 
 -- A GAP CLOSED
-
--- the part of a front
-pub drop-take : (m n : ℕ) (l : List ℕ) → drop m (take (m + n) l) ≡ take n (drop m l)
-drop-take zero n l = rw (zero-add n)
-drop-take (suc m) n [] = rw (suc-add m n, take-nil n)
-drop-take (suc m) n (x ∷ l) = rw (suc-add m n) (drop-take m n l)
 
 -- bytes moved down and zeros behind them close a gap
 pub closed_by : {d₁ d₂ : List ℕ} (used at n rest : ℕ) (l : List ℕ) → used ≤ length l → rest + (at + n) ≡ used
@@ -143,18 +129,7 @@ pub length-be32 : (x : ℕ) → length (be32 x) ≡ 4
 unfolding be32
 length-be32 x = refl
 
-digits : (x a b c x' a' b' : ℕ) → a * 256 + x' ≡ x → b * 256 + a' ≡ a → c * 256 + b' ≡ b → c * 16777216 + b' * 65536 + a' * 256 + x' ≡ x
-digits x a b c x' a' b' p q r = omega arith
-
 -- a number written and read back
 pub de32-be32 : (x : ℕ) (l : List ℕ) → x < 4294967296 → de32 (be32 x ++ l) 0 ≡ x
 unfolding be32
-de32-be32 x l h =
-    let a : x / 65536 ≡ x / 256 / 256 = sym (div-div-eq-div-mul x 256 256) in
-    let b : x / 16777216 ≡ x / 256 / 256 / 256 = sym (div-div-eq-div-mul x 256 65536) ∙ sym (div-div-eq-div-mul (x / 256) 256 256) in
-    let c : x / 16777216 % 256 ≡ x / 16777216 = mod-eq_of_lt ((div-lt_iff_lt-mul (lit< tt)).1 h) in
-    rw (c, a, b)
-    (digits x (x / 256) (x / 256 / 256) (x / 256 / 256 / 256) _ _ _
-    (div-add-mod' x 256)
-    (div-add-mod' (x / 256) 256)
-    (div-add-mod' (x / 256 / 256) 256))
+de32-be32 x l h = omega (arith, from_be_bytes-to_be_bytes_4 x h)

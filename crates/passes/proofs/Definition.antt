@@ -193,6 +193,3 @@ pub any_cons : (n : ℕ) (es : List E.Entry) (count i : ℕ) → i < count → c
     → any_left n (ahead es count i) ≡ has_byte_by n (at es i).number.0 (at es i).left || any_left n (ahead es count (i + 1))
 unfolding any_left
 any_cons n es count i h l = ap (any_left n) (ahead-cons es count i h l)
-
-pub any_start : (n : ℕ) (es : List E.Entry) (count : ℕ) → any_left n (take count es) ≡ any_left n (ahead es count 0)
-any_start n es count = rw (sub-zero count)

@@ -12,15 +12,13 @@ use Rattle.laws.proofs.Tests.{by_test}
 use Rattle.channel.specs.declared.Record.{Record}
 use Rattle.channel.specs.declared.Entry as E
 use Rattle.channel.specs.declared.Table as T
-use Rattle.channel.specs.State.{number_of, Entry, queued, without}
+use Rattle.channel.specs.State.{number_of, queued, without}
 use Rattle.channel.specs.Decide.{flushed, any_byte}
 use Rattle.channel.specs.Raw.{entries_of, pending_of}
 use Rattle.channel.specs.Sound.{sum_left}
 use Rattle.channel.proofs.Faithful.{pending_back, queued_back}
-use Rattle.lookup.specs.Update.{filed}
-use Rattle.passes.specs.declared.Kept.{Kept}
 use Rattle.passes.specs.declared.Size.{Size}
-use Rattle.passes.specs.Keep.{Base, keeps, kept_with, table_with}
+use Rattle.passes.specs.Keep.{Base, keeps}
 use Rattle.passes.specs.Flush.{sizes, size_of, any_left, stuck_by, positive_of}
 use Rattle.passes.specs.Pass.{entries_in, flushed_of, flushed_in}
 use Rattle.passes.proofs.Definition.{entries-used, any_left_lem, flushed-limit, sizes-flushed, keeps-flushed, keeps-without}
@@ -36,11 +34,6 @@ positive_limit c =
     above : (n : ℕ) → eqb n 0 ≡ false → 0 < n
     above zero e = absurd (true≢false e)
     above (suc n) e = omega arith
-
--- a compaction's table
-pub kept_table : (k : Kept) (t x : T.Table) (ks : List Entry) → x ≡ filed t k.entries k.count k.used → k ≡ kept_with ks t.entry_count t.entries → x ≡ table_with ks t
-unfolding kept_with table_with
-kept_table k t x ks e f = e ∙ ap (λ y. filed t y.entries y.count y.used) f
 
 module _ (t : T.Table) (q : List ℕ) (b : Base t.entries t.entry_count q t.queue_used) where
   -- the queue past its used part has no entry's bytes

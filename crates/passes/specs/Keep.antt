@@ -9,7 +9,6 @@ use Rattle.channel.specs.State.{most_entries, Entry, queued}
 use Rattle.channel.specs.Raw.{entries_of, pending_of, zero_entry}
 use Rattle.channel.specs.Sound.{sum_left}
 use Rattle.lookup.specs.Update.{filed}
-use Rattle.passes.specs.declared.Kept.{Kept}
 
 -- the entry is the channel's, none of the channel was kept yet (`live`), and the window holds it
 abbrev pub goes_by : ℕ → Bool → ℕ → ℕ → ℕ → Bool
@@ -50,9 +49,6 @@ queue_with ks used q = queued ks ++ replicate (used - length (queued ks)) 0 ++ d
 
 unfoldable pub entries_with : List Entry → ℕ → List E.Entry → List E.Entry
 entries_with ks count es = pending_of ks ++ replicate (count - length ks) zero_entry ++ drop count es
-
-unfoldable pub kept_with : List Entry → ℕ → List E.Entry → Kept
-kept_with ks count es = record { entries = entries_with ks count es; count = length ks; used = length (queued ks) }
 
 unfoldable pub table_with : List Entry → D.Table → D.Table
 table_with ks t = filed t (entries_with ks t.entry_count t.entries) (length ks) (length (queued ks))

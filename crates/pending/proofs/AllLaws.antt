@@ -6,14 +6,13 @@ use mathlib.Core.Bool.{Bool, true, false, ◌&&◌, ◌||◌, not, cond, true≢
 use mathlib.Core.List.{List, [], ◌∷◌, ◌++◌}
 use lib.ListN.{length, take}
 use lib.Dec.{leb, ltb, eqb}
-use native.Mathlib.Nat.{sub-zero}
 use native.Mathlib.Omega.{arith}
 use borrow.Author.Tests.{leb-true, leb-false, ltb-true, ltb-false, le-leb, lt-ltb, le-ltb, eqb-true, eqb-false, eq-eqb}
 use Rattle.laws.proofs.Tests.{by_test, shut, and_both, or_neither, or_second}
 use Rattle.channel.specs.declared.Entry as E
 use Rattle.channel.specs.declared.Record.{Record}
 use Rattle.channel.specs.Wire.{eof_message, close_message}
-use Rattle.channel.specs.State.{numbers_in_all, number_of, peer_of, Place, vacant, holds, Entry, Table, World, Found, nowhere, found, look, replace, is_used, any_entry}
+use Rattle.channel.specs.State.{number_of, peer_of, Place, vacant, holds, Entry, Table, World, nowhere, found, look, replace, is_used, any_entry}
 use Rattle.channel.specs.State as S
 use Rattle.channel.specs.Call.{Route, direct, Call, put, flush, flush_all, Result, complete, done, Answer, gave}
 use Rattle.channel.specs.Change.{with_peer_window, with_marks, with_entries, altered, removed}
@@ -37,15 +36,19 @@ use Rattle.channel.proofs.Meaning.{meaning-written}
 use Rattle.channel.proofs.Faithful.{written-meaning, sound-meaning}
 use Rattle.lookup.specs.Held.{HeldAt, record_at}
 use Rattle.lookup.proofs.Decided.{if_true, if_false, held-look, held_has}
-use Rattle.lookup.proofs.Branch.{sound-step, same-is}
+use Rattle.lookup.proofs.Branch.{sound-step, same-is, unsound}
+use Rattle.channel.proofs.Promises.{sound_stays}
+use Rattle.std.specs.Prelude as Prelude
+use Rattle.std.proofs.Common.{IsErrAnd, Ok, Err}
+use Rattle.channel.specs.declared.ChannelId.{ChannelId}
+use Rattle.channel.specs.declared.Refusal.{Refusal}
+use Rattle.channel.specs.declared.Stopped.{Stopped}
+use Rattle.channel.specs.declared.Stopped.TheVariants as Stop
 use Rattle.channel.specs.declared.ChannelFlushResult.{ChannelFlushResult}
 use Rattle.channel.specs.declared.ChannelFlushResult.TheVariants as Flush
 use Rattle.channel.specs.Answers as A
-use Rattle.pending.specs.declared.Least.{Least}
-use Rattle.pending.specs.declared.Next.{Next}
-use Rattle.pending.specs.declared.Next.TheVariants.{Done}
-use Rattle.pending.specs.Plan.{charged_by, plan_of, Goes}
-use Rattle.pending.specs.All.{nearer_by, least_from, none_yet, at_least, Rising, Passed, next_of, TurnBy}
+use Rattle.pending.specs.Plan.{charged_by, plan_of}
+use Rattle.pending.specs.All.{Least, nearer_by, least_from, none_yet, at_least, Rising, Passed}
 use Rattle.passes.proofs.KeepLaws.{at}
 use Rattle.passes.proofs.FlushLaws.{ahead, ahead-cons, flushed-nil}
 use Rattle.passes.proofs.Rows.{base_of}
@@ -53,12 +56,6 @@ use Rattle.passes.proofs.PassLaws.{rows}
 use Rattle.pending.proofs.PlanLaws.{flush-limit, flush_goes, closed-place, open_place}
 
 -- THE LOWEST NUMBER
-
-pub near_yes : (from n v : ℕ) (l : Least) → v ≡ n → leb from v && (not l.found || ltb n l.number) ≡ true → record { found = true; number = n } ≡ nearer_by from n l
-near_yes from n v l e t = ap (λ b. cond b (record { found = true; number = n }) l) (sym t ∙ ap (λ m. leb from m && (not l.found || ltb n l.number)) e)
-
-pub near_no : (from n v : ℕ) (l : Least) → v ≡ n → leb from v && (not l.found || ltb n l.number) ≡ false → l ≡ nearer_by from n l
-near_no from n v l e t = ap (λ b. cond b (record { found = true; number = n }) l) (sym t ∙ ap (λ m. leb from m && (not l.found || ltb n l.number)) e)
 
 pub least_cons : (from : ℕ) (l : Least) (es : List E.Entry) (count i : ℕ) → i < count → count ≤ length es
     → least_from from l (ahead es count i) ≡ least_from from (nearer_by from (at es i).number.0 l) (ahead es count (i + 1))
@@ -68,9 +65,6 @@ least_cons from l es count i h f = ap (least_from from l) (ahead-cons es count i
 pub least_none : (from : ℕ) (l : Least) (es : List E.Entry) (count i : ℕ) → count ≤ i → least_from from l (ahead es count i) ≡ l
 unfolding least_from
 least_none from l es count i h = let k : count - i ≡ 0 = omega arith in rw k
-
-pub least_start : (from : ℕ) (l : Least) (es : List E.Entry) (count : ℕ) → least_from from l (take count es) ≡ least_from from l (ahead es count 0)
-least_start from l es count = rw (sub-zero count)
 
 -- a number that is not passed is no nearer than the best after it, and the best only comes nearer
 nearer_le : (from n : ℕ) (l : Least) → from ≤ n → ((nearer_by from n l).found ≡ true) × ((nearer_by from n l).number ≤ n)
@@ -348,7 +342,7 @@ module _ (r : Raw) (ty : Typed r) (sd : is_sound r ≡ true) (route : Route) whe
   pub skip : (n : ℕ) → is_used n (meaning r).table.places ≡ true → any_entry n (meaning r).table.entries ≡ false → (ns : List ℕ) → flush_each route (n ∷ ns) (meaning r) ≡ flush_each route ns (meaning r)
   skip n u h ns = pick (look n (meaning r).table.places) refl
     where
-      pick : (f : Found) → look n (meaning r).table.places ≡ f → flush_each route (n ∷ ns) (meaning r) ≡ flush_each route ns (meaning r)
+      pick : (f : S.Found) → look n (meaning r).table.places ≡ f → flush_each route (n ∷ ns) (meaning r) ≡ flush_each route ns (meaning r)
       pick nowhere e = shut _ (look-nowhere n (meaning r).table.places e) u
       pick (found c) e =
           let q : number_of c ≡ n = look-number n (meaning r).table.places c e in
@@ -421,7 +415,7 @@ look_stepped : (w : World) (route : Route) (n m : ℕ) → (m ≡ n → ⊥) →
 unfolding P.step_load D.load
 look_stepped w route n m ne = look-applied w (goes_straight (direct route) w) (D.known (look n w.table.places) (flush_on w.table)) m (by_found (look n w.table.places) refl)
   where
-    by_found : (x : Found) → look n w.table.places ≡ x → (p : Plan) → D.known x (flush_on w.table) ≡ go p → look m p.table.places ≡ look m w.table.places
+    by_found : (x : S.Found) → look n w.table.places ≡ x → (p : Plan) → D.known x (flush_on w.table) ≡ go p → look m p.table.places ≡ look m w.table.places
     by_found nowhere e p f = absurd (unfold D.known in (let z : refuse 2 ≡ go p = f in let y : ◌≡◌ {A = ℕ} 0 1 = cc in omega arith))
     by_found (found c) e p f = look-flushed w.table c n m (look-number n w.table.places c e) ne p (unfold D.known in f)
 
@@ -526,18 +520,28 @@ module _ (r : Raw) (ty : Typed r) (sd : is_sound r ≡ true) (route : Route) (fr
               same = comes ∙ each_go route l.number (at_least (l.number + 1) ns₀) (meaning r) g u;
             }
 
-  -- the turn, by what the channel's flush answers
-  pub turn_by : l.found ≡ true → l.number < numbers_in_all → (a : ChannelFlushResult) (s : Raw) → Goes r (put route (flush l.number)) (record { answer = A.flushed a; state = s })
-      → TurnBy route r from (next_of a l.number) s
-  unfolding TurnBy next_of A.flushed A.refusal P.is_refusal P.stop_at
-  turn_by t b (Flush.Incomplete k) s g = (omega (arith, (turn_from t).0), omega arith, λ r₀ p. turn_on r₀ p t _ g.is g.sound refl)
-  turn_by t b (Flush.Complete k) s g = (omega (arith, (turn_from t).0), omega arith, λ r₀ p. turn_on r₀ p t _ g.is g.sound refl)
-  turn_by t b (Flush.Refused k) s g = λ r₀ p. turn_stop r₀ p t _ g.is refl
+-- what a flush gives is no refusal
+pub flushed-gives : (a : ChannelFlushResult) → is_refusal (A.flush_is a) ≡ false
+unfolding A.flush_is P.is_refusal
+flushed-gives (Flush.Incomplete k) = refl
+flushed-gives (Flush.Complete m) = refl
 
-  pub turn_next : l.found ≡ true → l.number < numbers_in_all → (a : ChannelFlushResult) (s : Raw) → Goes r (put route (flush l.number)) (record { answer = A.flushed a; state = s })
-      → (x : Next) → x ≡ next_of a l.number → TurnBy route r from x s
-  turn_next t b a s g x f = rw f (turn_by t b a s g)
+-- a call on a sound state leaves it sound
+pub still_sound : (r : Raw) → Typed r → is_sound r ≡ true → (k : Call) (o : Outcome) → o ≡ called r k → is_sound o.state ≡ true
+still_sound r ty sd k o e = ap (λ x. is_sound x.state) e ∙ sound_stays r ty k ∙ sd
 
-  pub turn_end : l.found ≡ false → TurnBy route r from Done r
-  unfolding TurnBy
-  turn_end t = λ r₀ p. turn_done r₀ p t
+-- nothing is flushed of a state that is not sound
+pub all_unsound : (r : Raw) (route : Route) (x : Prelude.Result (Unit {0}) Stopped) {k : Refusal} → IsErrAnd x (λ s. s ≡ Stop.Refused k) → (is_sound r ≡ false) × (k ≡ Refusal.State)
+    → record { answer = A.all_flushed x; state = r } ≡ called r (flush_all route)
+unfolding A.all_flushed A.refusal A.refusal_number
+all_unsound r route (Ok u) e s = absurd e
+all_unsound r route (Err j) e s = rw (e ∙ ap Stop.Refused s.1) (sym (unsound r (flush_all route) s.0))
+
+-- a refusal, as the flush of all answers it
+pub stopped_is : (n : ChannelId) (k : Refusal) → A.all_flushed (Err (Stop.At n k)) ≡ stop_at n.0 (A.refusal k)
+unfolding A.all_flushed A.refusal P.stop_at
+stopped_is n k = refl
+
+pub refusal_is : (k : Refusal) → is_refusal (A.refusal k) ≡ true
+unfolding A.refusal P.is_refusal
+refusal_is k = refl

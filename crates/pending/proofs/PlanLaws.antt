@@ -1,6 +1,6 @@
 -- From the carry-out to the definition's plan, and from the plan to `called`.
 -- Assumes nothing.
-use Prim.Native.Nat.{ℕ, ◌+◌, ◌-◌, ◌^◌, ◌≤◌}
+use Prim.Native.Nat.{ℕ, ◌+◌, ◌≤◌}
 use mathlib.Core.Path.{◌≡◌, refl, sym, ap, ap₂, ◌∙◌}
 use mathlib.Core.Bool.{Bool, true, false, ◌&&◌, not, cond, true≢false}
 use mathlib.Core.List.{List, [], ◌++◌}
@@ -80,9 +80,25 @@ pub eof-none : (peer at : ℕ) (eof close : Bool) (l d : List ℕ) → eof ≡ f
 eof-none peer at true close l d e f = absurd (true≢false e)
 eof-none peer at false close l d e f = f
 
-pub none-room : (peer at n : ℕ) (eof close : Bool) → eof ≡ false → at + length (frames (marked peer eof close)) ≤ n → at + length (frames (marked peer false close)) ≤ n
-none-room peer at n true close e h = absurd (true≢false e)
-none-room peer at n false close e h = h
+-- and where they end
+pub close-count : (peer at : ℕ) (close : Bool) → close ≡ true → at + 9 ≡ at + length (frames (marked peer false close))
+close-count peer at true e = omega (arith, marks-length peer false true)
+close-count peer at false e = absurd (true≢false (sym e))
+
+pub none-count : (peer at : ℕ) (close : Bool) → close ≡ false → at ≡ at + length (frames (marked peer false close))
+none-count peer at true e = absurd (true≢false e)
+none-count peer at false e = omega (arith, marks-length peer false false)
+
+pub eof-count : (peer at m : ℕ) (eof close : Bool) → eof ≡ true → m ≡ at + 9 + length (frames (marked peer false close)) → m ≡ at + length (frames (marked peer eof close))
+eof-count peer at m true close e f =
+    let a = marks-length peer true close in
+    let b = marks-length peer false close in
+    omega arith
+eof-count peer at m false close e f = absurd (true≢false (sym e))
+
+pub no_eof-count : (peer at m : ℕ) (eof close : Bool) → eof ≡ false → m ≡ at + length (frames (marked peer false close)) → m ≡ at + length (frames (marked peer eof close))
+no_eof-count peer at m true close e f = absurd (true≢false e)
+no_eof-count peer at m false close e f = f
 
 -- THE DECISION
 
@@ -161,20 +177,3 @@ plan-last t c f = by f.all c.pending_close
     by true true = refl
     by true false = refl
     by false close = refl
-
--- by the test that the code makes
-pub word-gone : (used i : ℕ) (gone : Bool) → gone ≡ true → used - 2 ^ i ≡ word_by used i gone
-unfolding word_by
-word-gone used i gone e = sym (ap (λ b. cond b (used - 2 ^ i) used) e)
-
-pub word_stays : (used i : ℕ) (gone : Bool) → gone ≡ false → used ≡ word_by used i gone
-unfolding word_by
-word_stays used i gone e = sym (ap (λ b. cond b (used - 2 ^ i) used) e)
-
-pub record-gone : (c : Record) (w : ℕ) (all : Bool) → all && c.pending_close ≡ true → zero_record ≡ record_by c w all
-unfolding record_by
-record-gone c w all e = sym (ap (λ b. cond b zero_record (charged_by c w all)) e)
-
-pub record_stays : (c : Record) (w : ℕ) (all : Bool) → all && c.pending_close ≡ false → charged_by c w all ≡ record_by c w all
-unfolding record_by
-record_stays c w all e = sym (ap (λ b. cond b zero_record (charged_by c w all)) e)

@@ -1,29 +1,69 @@
-// The fields of a script: bytes and 32-bit numbers at any place, which count as 0 past the end.
+// The fields of a script, read one after the other.
+ghost use Rattle.std.specs.Prelude.{length, IfSome};
+ghost use Rattle.std.specs.Iterator.{at_most};
+ghost use Rattle.player.specs.Left.{NoLonger, Shorter};
 
-// The byte at a place.
-pub fn byte_at(bytes: &[u8], at: usize) -> u8 {
-    if at < bytes.len() {
-        return bytes[at];
+// What is left of a script. Each method takes one field off its front, or gives none where the rest is too short or no such field.
+#[derive(Drop)]
+pub struct Fields<'a>(pub &'a [u8]);
+
+impl<'a> Fields<'a> {
+    // A byte.
+    pub fn byte(&mut self) -> Option<u8>
+        ensures within { NoLonger self.old self.new }
+        ensures taken { IfSome result (λ x. Shorter self.old self.new) }
+    {
+        let (first, rest) = self.0.split_first()?;
+        self.0 = rest;
+        Some(*first)
     }
-    0
-}
 
-// The number of the four bytes at a place, the most significant first.
-pub fn u32_at(bytes: &[u8], at: usize) -> u32 {
-    if at < bytes.len() {
-        if bytes.len() - at >= 4 {
-            return octets::read_u32(bytes, at);
+    // An integer, the most significant byte first.
+    pub fn u32(&mut self) -> Option<u32>
+        ensures within { NoLonger self.old self.new }
+        ensures taken { IfSome result (λ x. Shorter self.old self.new) }
+    {
+        let (bytes, rest) = self.0.split_first_chunk::<4>()?;
+        self.0 = rest;
+        Some(u32::from_be_bytes(*bytes))
+    }
+
+    // A switch: 0 is off, 1 is on.
+    pub fn switch(&mut self) -> Option<bool>
+        ensures { NoLonger self.old self.new }
+    {
+        match self.byte()? {
+            0 => Some(false),
+            1 => Some(true),
+            _ => None,
         }
     }
-    0
+
+    // A string: its length and its bytes.
+    pub fn string(&mut self) -> Option<&'a [u8]>
+        ensures within { NoLonger self.old self.new }
+        ensures taken { IfSome result (λ x. Shorter self.old self.new) }
+    {
+        let n = self.u32()? as usize;
+        let (bytes, rest) = self.0.split_at_checked(n)?;
+        self.0 = rest;
+        Some(bytes)
+    }
 }
 
-// A switch of a script: 1 is on.
-pub fn is_on(b: u8) -> bool {
-    b == 1
-}
+// The strings that stand one after the other, up to the first that is cut short.
+#[derive(Drop)]
+pub struct Strings<'a>(pub &'a [u8]);
 
-// Whether a byte can be a switch of a script.
-pub fn is_switch(b: u8) -> bool {
-    b <= 1
+impl<'a> Iterator for Strings<'a> {
+    type Item = &'a [u8];
+
+    ghost remaining = { λ s. at_most (length s.0.now) };
+
+    fn next(&mut self) -> Option<&'a [u8]> {
+        let mut fields = Fields(self.0);
+        let bytes = fields.string()?;
+        self.0 = fields.0;
+        Some(bytes)
+    }
 }

@@ -1,10 +1,11 @@
-// Scripts of calls: the next call is read from a script's bytes and made on a table over three lent buffers. docs/REPLAY.md has the format.
+// Scripts of calls: each call is read from a script's bytes and made on a table over three buffers. docs/REPLAY.md has the format.
 #![tactic(auto)]
 
 mod call;
 mod fields;
-mod lent;
+mod lab;
+mod script;
 
-pub use call::{Played, play};
-pub use fields::u32_at;
-pub use lent::fill;
+pub use fields::Strings;
+pub use lab::{Lab, Played};
+pub use script::play_script;

@@ -3,144 +3,119 @@
 
 ghost use Rattle.std.specs.Prelude.{◌≡◌, ℕ, ◌≤◌};
 ghost use Rattle.channel.specs.declared.Kind.TheVariants as K;
-ghost use Rattle.channel.specs.Read.{int, string_ends, read_message};
-ghost use Rattle.reading.specs.Reads.{read_of, confirmation_at, failure_at, credit_at, received_at, end_at};
+ghost use Rattle.channel.specs.Read.{int, read_message};
+ghost use Rattle.reading.specs.Reads.{read_of, confirmation_at, failure_at, credit_at, received_at, IsLastString, IsAlone};
 
 use channel::{
     Adjust, ChannelData, ChannelId, Confirmation, Failure, Kind, Message, PeerNumber, Text,
 };
 use octets::read_u32;
 
-// What a payload reads as.
-#[derive(Clone, Copy)]
-pub enum Read {
-    Malformed,
-    Reads(Message),
-}
-
-// A string's length stands at the place, and its bytes end the payload.
-fn string_ends(p: &[u8], at: usize) -> bool
+// The string at the place, where its length stands there and its bytes end the payload.
+fn last_string(p: &[u8], at: usize) -> Option<Text>
     requires { at ≤ 4294967308 }
-    ensures { result ≡ string_ends p.now at }
+    ensures { IsLastString p.now at result }
 {
-    if at + 4 <= p.len() {
-        return at + 4 + read_u32(p, at) as usize == p.len();
+    if p.len() < at + 4 {
+        return None;
     }
-    false
+    let length = read_u32(p, at);
+    (at + 4 + length as usize == p.len()).then_some(Text {
+        start: at + 4,
+        length,
+    })
 }
 
 // 91: recipient, sender, window, limit, then anything.
-fn read_confirmation(p: &[u8]) -> Read
+fn read_confirmation(p: &[u8]) -> Option<Message>
     ensures { read_of result ≡ confirmation_at p.now }
 {
-    if 17 <= p.len() {
-        let m = Confirmation {
-            recipient: ChannelId(read_u32(p, 1)),
-            sender: PeerNumber(read_u32(p, 5)),
-            window: read_u32(p, 9),
-            limit: read_u32(p, 13),
-        };
-        return Read::Reads(Message::OpenConfirmation(m));
+    if p.len() < 17 {
+        return None;
     }
-    Read::Malformed
+    Some(Message::OpenConfirmation(Confirmation {
+        recipient: ChannelId(read_u32(p, 1)),
+        sender: PeerNumber(read_u32(p, 5)),
+        window: read_u32(p, 9),
+        limit: read_u32(p, 13),
+    }))
 }
 
 // 92: recipient, reason, two strings.
-fn read_failure(p: &[u8]) -> Read
+fn read_failure(p: &[u8]) -> Option<Message>
     ensures { read_of result ≡ failure_at p.now }
 {
-    if 13 <= p.len() {
-        let length = read_u32(p, 9);
-        let at = 13 + length as usize;
-        if string_ends(p, at) {
-            let m = Failure {
-                recipient: ChannelId(read_u32(p, 1)),
-                reason: read_u32(p, 5),
-                description: Text { start: 13, length },
-                language: Text {
-                    start: at + 4,
-                    length: read_u32(p, at),
-                },
-            };
-            return Read::Reads(Message::OpenFailure(m));
-        }
+    if p.len() < 13 {
+        return None;
     }
-    Read::Malformed
+    let length = read_u32(p, 9);
+    let language = last_string(p, 13 + length as usize)?;
+    Some(Message::OpenFailure(Failure {
+        recipient: ChannelId(read_u32(p, 1)),
+        reason: read_u32(p, 5),
+        description: Text { start: 13, length },
+        language,
+    }))
 }
 
 // 93: recipient, bytes to add.
-fn read_adjust(p: &[u8]) -> Read
+fn read_adjust(p: &[u8]) -> Option<Message>
     ensures { read_of result ≡ credit_at p.now }
 {
-    if p.len() == 9 {
-        let m = Adjust {
-            recipient: ChannelId(read_u32(p, 1)),
-            add: read_u32(p, 5),
-        };
-        return Read::Reads(Message::WindowAdjust(m));
+    if p.len() != 9 {
+        return None;
     }
-    Read::Malformed
+    Some(Message::WindowAdjust(Adjust {
+        recipient: ChannelId(read_u32(p, 1)),
+        add: read_u32(p, 5),
+    }))
 }
 
 // 94 and 95: recipient and, from the place on, the data; the kind is the caller's to read.
-fn read_data(p: &[u8], kind: Kind, at: usize) -> Read
+fn read_data(p: &[u8], kind: Kind, at: usize) -> Option<Message>
     requires { (1 ≤ at) × (at ≤ 9) }
     ensures { read_of result ≡ received_at p.now kind at }
 {
-    if string_ends(p, at) {
-        let m = ChannelData {
-            recipient: ChannelId(read_u32(p, 1)),
-            kind,
-            text: Text {
-                start: at + 4,
-                length: read_u32(p, at),
-            },
-        };
-        return Read::Reads(Message::Data(m));
-    }
-    Read::Malformed
+    let text = last_string(p, at)?;
+    Some(Message::Data(ChannelData {
+        recipient: ChannelId(read_u32(p, 1)),
+        kind,
+        text,
+    }))
 }
 
 // 95: recipient, code, data.
-fn read_extended(p: &[u8]) -> Read
+fn read_extended(p: &[u8]) -> Option<Message>
     ensures { read_of result ≡ received_at p.now (K.Extended (int p.now 5)) 9 }
 {
-    if 9 <= p.len() {
-        return read_data(p, Kind::Extended(read_u32(p, 5)), 9);
+    if p.len() < 9 {
+        return None;
     }
-    Read::Malformed
+    read_data(p, Kind::Extended(read_u32(p, 5)), 9)
 }
 
 // 96 and 97: the recipient alone.
-fn read_end(p: &[u8], closes: bool) -> Read
-    ensures { read_of result ≡ end_at p.now closes }
+fn alone(p: &[u8]) -> Option<ChannelId>
+    ensures { IsAlone p.now result }
 {
-    if p.len() == 5 {
-        let n = ChannelId(read_u32(p, 1));
-        if closes {
-            return Read::Reads(Message::Close(n));
-        }
-        return Read::Reads(Message::Eof(n));
+    if p.len() != 5 {
+        return None;
     }
-    Read::Malformed
+    Some(ChannelId(read_u32(p, 1)))
 }
 
-// What a payload reads as, by its type byte: a message where it has one of the forms, and Malformed where it has none.
-pub fn read_message(p: &[u8]) -> Read
+// The message that a payload reads as, by its type byte, a number of RFC 4254 (section 9), where it has that type's form.
+pub fn read_message(p: &[u8]) -> Option<Message>
     ensures { read_of result ≡ read_message p.now }
 {
-    if p.len() == 0 {
-        return Read::Malformed;
-    }
-    let number = p[0];
-    match number {
+    match *p.first()? {
         91 => read_confirmation(p),
         92 => read_failure(p),
         93 => read_adjust(p),
         94 => read_data(p, Kind::Plain, 5),
         95 => read_extended(p),
-        96 => read_end(p, false),
-        97 => read_end(p, true),
-        _ => Read::Malformed,
+        96 => alone(p).map(Message::Eof),
+        97 => alone(p).map(Message::Close),
+        _ => None,
     }
 }

@@ -1,40 +1,28 @@
 -- The definition's test in the parts that the code decides.
 -- Assumes nothing.
-use Prim.Native.Nat.{ℕ, ◌+◌, ◌≤◌, ◌<◌}
-use mathlib.Core.Path.{◌≡◌, sym, ap, ◌∙◌}
-use mathlib.Core.Bool.{Bool, true, false, ◌&&◌, ◌||◌, and_assoc, and-true, and-false, or_assoc, or-false}
-use mathlib.Core.List.{[]}
+use Rattle.std.proofs.lemmas.List.{length-take-le, take_all, length-drop}
+use native.Mathlib.Omega.{arith}
+use Prim.Native.Nat.{ℕ, zero, suc, ◌-◌, ◌+◌, ◌≤◌, ◌<◌}
+use mathlib.Core.Path.{◌≡◌, refl, sym, ap, ◌∙◌}
+use mathlib.Core.Bool.{Bool, true, false, ◌&&◌, ◌||◌, and_assoc, and-true, and-false, or_assoc}
+use mathlib.Core.List.{List, [], ◌∷◌}
 use lib.ListN.{length, drop, take, get_or}
-use lib.Dec.{leb, eqb}
-use borrow.Author.Tests.{eq-eqb, ne_eqb, eqb-true, eqb-false, leb-true}
-use Rattle.laws.proofs.Tests.{by_test, shut, and_both}
+use lib.Dec.{eqb}
 use Rattle.laws.specs.Clauses as Cl
 use Rattle.channel.specs.declared.Table as D
 use Rattle.channel.specs.declared.Entry as E
-use Rattle.channel.specs.State.{most_entries, any_entry}
-use Rattle.channel.specs.State as S
+use Rattle.channel.specs.State.{any_entry}
 use Rattle.channel.specs.Raw.{Raw, entries_of, meaning}
 use Rattle.channel.specs.Raw as R
 use Rattle.channel.specs.Sound.{unused_zero, entries_zero, distinct, all_named, all_marked, sum_left, whole_frames, is_sound}
 use Rattle.channel.specs.Sound as O
 use Rattle.lookup.proofs.Walk.{any_next, any_bytes, named_bytes, marked-same}
-use Rattle.lookup.specs.declared.Seat.{Seat}
-use Rattle.soundness.specs.Tested.{sizes, limited, places_in, entries_in, tidy, LookedOver, entries_sound, EntriesTold, marks_sound}
+use Rattle.soundness.specs.Tested.{Sized, sizes, limited, listed, places_in, entries_in, tidy, entries_sound, marks_sound}
 use Rattle.soundness.specs.Tested as T
-
-eqb_swap : (a b : ℕ) → eqb a b ≡ eqb b a
-eqb_swap a b =
-    by_test (eqb a b)
-    (λ t. t ∙ sym (eq-eqb b a (sym (eqb-true a b t))))
-    (λ t. t ∙ sym (ne_eqb b a (λ e. eqb-false a b t (sym e))))
 
 -- THE LOOK OVER THE TABLE, at each way out
 
 module _ (t : D.Table) where
-  -- a look that failed says nothing more
-  pub looked_not : (n : ℕ) (b marked : Bool) (seat : Seat) → b ≡ false → tidy t ≡ false → LookedOver t n b marked seat
-  looked_not n b marked seat z e = record { is = z ∙ sym e; unmarked = λ y. shut b z y; seated = λ y. shut b z y }
-
   pub tidy-places : unused_zero t.used t.records ≡ false → tidy t ≡ false
   unfolding T.tidy
   tidy-places p = rw p
@@ -51,33 +39,54 @@ module _ (t : D.Table) where
   unfolding T.tidy
   tidy-is p d z = rw (p, d, z)
 
-  pub tidy-distinct : tidy t ≡ true → distinct (places_in t) ≡ true
-  unfolding T.tidy
-  tidy-distinct e =
-      let a = and_both (unused_zero t.used t.records) (entries_zero (drop t.entry_count t.entries) && distinct (places_in t)) e in
-      (and_both (entries_zero (drop t.entry_count t.entries)) (distinct (places_in t)) a.1).1
+-- THE ENTRIES in use, and those past them
 
-  -- THE ENTRIES, at each way out
-  pub entries_unnamed : (n : ℕ) (b waits : Bool) → b ≡ false → all_named (places_in t) (entries_in t) ≡ false → EntriesTold t n b waits
+part : (c : ℕ) (es : List E.Entry) (bs : List ℕ) → entries_of c (take c es) bs ≡ entries_of c es bs
+unfolding R.entries_of
+part zero es bs = refl
+part (suc c) [] bs = refl
+part (suc c) (e ∷ es) bs = ap (λ l. record { number = e.number.0; kind = e.kind; bytes = take e.left bs } ∷ l) (part c es (drop e.left bs))
+
+listed_part : (c : ℕ) (es : List E.Entry) → c ≤ length es → listed (take c es) ≡ entries_of c es []
+listed_part c es h = ap (λ k. entries_of k (take c es) []) (length-take-le c es h) ∙ part c es []
+
+sum_part : (c : ℕ) (es : List E.Entry) → sum_left c (take c es) ≡ sum_left c es
+unfolding O.sum_left
+sum_part zero es = refl
+sum_part (suc c) [] = refl
+sum_part (suc c) (e ∷ es) = ap (λ n. e.left + n) (sum_part c es)
+
+-- an entry more, and whether it has the number
+pub entry_more : (es : List E.Entry) (n k : ℕ) (z : E.Entry) (waits : Bool) → k < length es
+    → any_entry n (listed es) ≡ waits || any_entry n (drop k (listed es)) → any_entry n (listed es) ≡ (waits || eqb (get_or es k z).number.0 n) || any_entry n (drop (k + 1) (listed es))
+entry_more es n k z waits h w =
+    w ∙ ap (λ x. waits || x) (any_next (length es) es [] k n z h (omega arith))
+    ∙ sym (or_assoc waits (eqb (get_or es k z).number.0 n) (any_entry n (drop (k + 1) (listed es))))
+
+module _ (t : D.Table) (s : Sized t) where
+  -- those in use, and the sum of their lengths
+  pub listed_is : listed (take t.entry_count t.entries) ≡ entries_in t
+  listed_is = listed_part t.entry_count t.entries (omega (arith, s.few, s.entries))
+
+  pub sum_is : sum_left (length (take t.entry_count t.entries)) (take t.entry_count t.entries) ≡ sum_left t.entry_count t.entries
+  sum_is = ap (λ k. sum_left k (take t.entry_count t.entries)) (length-take-le t.entry_count t.entries (omega (arith, s.few, s.entries))) ∙ sum_part t.entry_count t.entries
+
+  -- what the walk over them says of the table
+  pub any_is : (n : ℕ) (b : Bool) → any_entry n (listed (take t.entry_count t.entries)) ≡ b → any_entry n (entries_in t) ≡ b
+  any_is n b e = ap (any_entry n) (sym listed_is) ∙ e
+
+  pub not_named : all_named (places_in t) (listed (take t.entry_count t.entries)) ≡ false → entries_sound t ≡ false
   unfolding T.entries_sound
-  entries_unnamed n b waits z e = record { is = z ∙ rw e; waits_is = λ y. shut b z y }
+  not_named e = rw (ap (all_named (places_in t)) (sym listed_is) ∙ e)
 
-  pub entries-sum : (n sum k : ℕ) (waits : Bool) → all_named (places_in t) (entries_in t) ≡ true → sum_left t.entry_count t.entries ≡ sum
-      → any_entry n (entries_in t) ≡ waits || any_entry n (drop k (entries_in t)) → any_entry n (drop k (entries_in t)) ≡ false → EntriesTold t n (eqb sum t.queue_used) waits
+  pub named_sum : (sum : ℕ) (b : Bool) → all_named (places_in t) (listed (take t.entry_count t.entries)) ≡ true
+      → sum_left (length (take t.entry_count t.entries)) (take t.entry_count t.entries) ≡ sum → eqb sum t.queue_used ≡ b → entries_sound t ≡ b
   unfolding T.entries_sound
-  entries-sum n sum k waits a e w z = record { is = rw (a, e); waits_is = λ y. sym (w ∙ ap (λ b. waits || b) z ∙ or-false waits) }
+  named_sum sum b a e q = rw (ap (all_named (places_in t)) (sym listed_is) ∙ a) (ap (λ x. eqb x t.queue_used) (sym sum_is ∙ e) ∙ q)
 
-  -- an entry more, and whether it has the number
-  pub entry_more : (n k : ℕ) (z : E.Entry) (waits b : Bool) → k < t.entry_count → t.entry_count ≤ length t.entries → b ≡ eqb (get_or t.entries k z).number.0 n
-      → any_entry n (entries_in t) ≡ waits || any_entry n (drop k (entries_in t)) → any_entry n (entries_in t) ≡ waits || b || any_entry n (drop (k + 1) (entries_in t))
-  entry_more n k z waits b h l e w =
-      w ∙ ap (λ x. waits || x) (any_next t.entry_count t.entries [] k n z h l ∙ ap (λ x. x || any_entry n (drop (k + 1) (entries_in t))) (sym e))
-      ∙ sym (or_assoc waits b (any_entry n (drop (k + 1) (entries_in t))))
-
-  -- no entry names anything, and their lengths sum to 0
-  pub entries_none : (n : ℕ) → t.entry_count ≡ 0 → EntriesTold t n (eqb t.queue_used 0) false
-  unfolding T.entries_sound O.all_named O.sum_left R.entries_of S.any_entry
-  entries_none n e = record { is = rw e (eqb_swap t.queue_used 0); waits_is = λ y. rw e }
+  -- the rest
+  pub unused_is : take (64 - t.entry_count) (drop t.entry_count t.entries) ≡ drop t.entry_count t.entries
+  unused_is = take_all (64 - t.entry_count) (drop t.entry_count t.entries) (simp length-drop (omega (arith, s.few, s.entries)))
 
 -- THE WHOLE
 
@@ -95,17 +104,6 @@ module _ (r : Raw) where
       let m : all_marked es (places_in r.held) ≡ all_marked (entries_in r.held) (places_in r.held) =
       marked-same es (entries_in r.held) (places_in r.held) (any_bytes r.held.entry_count r.held.entries _ _) in
       rw (n, m) (simp (and_assoc, and-true))
-
-  -- within its limits
-  pub limits_few : limited r ≡ true → r.held.entry_count ≤ most_entries
-  limits_few l =
-      leb-true _ _ (and_both (sizes r && leb r.held.staged_used (length r.staged) && leb r.held.sent_used (length r.sent)) _ l).1
-
-  pub limits_staged : limited r ≡ true → r.held.staged_used ≤ length r.staged
-  limits_staged l =
-      let a = and_both (sizes r && leb r.held.staged_used (length r.staged) && leb r.held.sent_used (length r.sent)) _ l in
-      let b = and_both (sizes r && leb r.held.staged_used (length r.staged)) _ a.0 in
-      leb-true _ _ (and_both (sizes r) _ b.0).1
 
   -- each way out
   pub sound_limits : limited r ≡ false → is_sound r ≡ false

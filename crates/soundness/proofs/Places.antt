@@ -1,36 +1,37 @@
 -- The places from the last to the first: what a look over those from a place on leaves, and how one place more changes it.
 -- Assumes nothing.
-use Prim.Native.Nat.{ℕ, zero, suc, ◌+◌, ◌-◌, ◌/◌, ◌%◌, ◌^◌, ◌≤◌, ◌<◌}
+use Prim.Native.Nat.{ℕ, zero, suc, ◌+◌, ◌/◌, ◌%◌, ◌^◌, ◌≤◌, ◌<◌}
 use mathlib.Core.Path.{◌≡◌, refl, sym, ap, subst, ◌∙◌}
 use mathlib.Core.Bool.{Bool, true, false, ◌&&◌, ◌||◌, not, cond, true≢false, and-false}
 use mathlib.Core.List.{List, [], ◌∷◌}
 use lib.ListN.{length, drop, get_or, set}
 use lib.Seq.{get_or-set_same, get_or-set_other}
-use lib.Dec.{eqb, ltb}
+use lib.Dec.{eqb}
 use native.Mathlib.Omega.{arith}
 use native.Mathlib.Nat.{div-one}
-use borrow.Author.Tests.{eqb-true, eqb-false, ne_eqb, not-true, ltb-true, ltb-false}
+use borrow.Author.Tests.{eqb-true, eqb-false, eq-eqb, ne_eqb, not-true}
 use Rattle.laws.specs.Bits.{bit}
 use Rattle.laws.proofs.Tests.{by_test, shut, and_both, or_neither, or_second}
 use Rattle.laws.proofs.Bits.{half_first}
 use Rattle.channel.specs.declared.Record.{Record}
-use Rattle.channel.specs.State.{place_count, number_of, Place, vacant, holds, Entry, found, look, is_used}
+use Rattle.channel.specs.State.{place_count, number_of, Place, vacant, holds, Entry, nowhere, found, look, is_used}
 use Rattle.channel.specs.State as S
 use Rattle.channel.specs.Raw.{places_of, zero_record}
 use Rattle.channel.specs.Sound.{is_zero, unused_zero, distinct, all_marked}
 use Rattle.channel.specs.Sound as O
-use Rattle.channel.proofs.Lookup.{look_miss}
-use Rattle.lookup.specs.declared.Seat.{Seat}
-use Rattle.lookup.specs.declared.Seat.TheVariants as St
-use Rattle.lookup.specs.Held.{Seats}
-use Rattle.lookup.specs.Held as H
-use Rattle.lookup.proofs.Walk.{place-next, place-past, look-next, look-here, look-past, held_at, number-held, used_stop, used-past, unused_start, unused_go, unused_stop}
+use Rattle.channel.proofs.Lookup.{look_miss, look_unused}
+use Rattle.channel.specs.declared.Table as D
+use Rattle.lookup.specs.Held.{HeldAt}
+use Rattle.soundness.specs.declared.Look.{Look}
+use Rattle.soundness.specs.Tested.{Hinted, places_in}
+use Rattle.lookup.proofs.Walk.{place-next, place-past, look-here, held_at, number-held, used_stop, unused_start, unused_go, unused_stop}
 
--- No number is used twice, a used number has a hint, and where no mark was seen every mark has an entry.
-pub record Seen (ps : List Place) (hints : List ℕ) (marked : Bool) : Type 0 where
-  pub apart : distinct ps ≡ true
-  pub hinted : (n : ℕ) → is_used n ps ≡ true → eqb (get_or hints (n % 64) 0) 0 ≡ false
-  pub unmarked : marked ≡ false → (es : List Entry) → all_marked es ps ≡ true
+-- what a look has left so far
+abbrev look_of : List ℕ → Bool → Look
+look_of hints marked = record { hints = hints; marked = marked }
+
+abbrev pub Seen : List Place → List ℕ → Bool → Type 0
+Seen ps hints marked = Hinted ps (look_of hints marked)
 
 seen_none : (hints : List ℕ) → Seen [] hints false
 unfolding O.distinct S.is_used O.all_marked
@@ -91,65 +92,15 @@ module _ (rs : List Record) (w : ℕ) where
   pub unused_all : (i : ℕ) → i ≤ 0 → unused_zero (w / 2 ^ i) (drop i rs) ≡ true → unused_zero w rs ≡ true
   unused_all i h u = let e : i ≡ 0 = omega arith in unused_start rs w ∙ ap (λ k. unused_zero (w / 2 ^ k) (drop k rs)) (sym e) ∙ u
 
-  -- with no hint the number is not among the later places, and with one they are all looked at
-  pub scan_start : (p i n h j : ℕ) (hints : List ℕ) (marked : Bool) → p + 1 ≡ i → length rs ≡ place_count → h ≡ get_or hints (n % 64) 0 → j ≡ cond (eqb h 0) place_count (p + 1)
-      → Seen (drop i (places_of w rs)) hints marked → is_used n (drop (p + 1) (places_of w rs)) ≡ is_used n (drop j (places_of w rs))
-  scan_start p i n h j hints marked e l g f s =
-      by_test (eqb h 0)
-      (λ t. let u : is_used n (drop i (places_of w rs)) ≡ false =
-      by_test (is_used n (drop i (places_of w rs))) (λ v. shut (eqb h 0) (ap (λ x. eqb x 0) g ∙ s.hinted n v) t) (λ v. v) in
-      ap (λ k. is_used n (drop k (places_of w rs))) e ∙ u
-      ∙ sym (ap (λ k. is_used n (drop k (places_of w rs))) (f ∙ ap (λ b. cond b place_count (p + 1)) t) ∙ used-past rs w place_count n (omega arith)))
-      (λ t. sym (ap (λ k. is_used n (drop k (places_of w rs))) (f ∙ ap (λ b. cond b place_count (p + 1)) t)))
+-- a number without a hint is not used
+pub unhinted : (n : ℕ) (ps : List Place) (l : Look) → Hinted ps l → get_or l.hints (n % 64) 0 ≡ 0 → is_used n ps ≡ false
+unhinted n ps l s z =
+    by_test (is_used n ps)
+    (λ v. shut (eqb (get_or l.hints (n % 64) 0) 0) (s.hinted n v) (eq-eqb _ 0 z))
+    (λ v. v)
 
--- The number n from place i on: place `at` is the first that has it, or `at` is past the last and none has it.
-pub record First (rs : List Record) (w n i at : ℕ) : Type 0 where
-  pub same : look n (drop i (places_of w rs)) ≡ look n (drop at (places_of w rs))
-  pub has : at < length rs → bit w at && eqb (number_of (get_or rs at zero_record)) n ≡ true
-
-module _ (rs : List Record) (w n : ℕ) where
-  pub first_past : (i : ℕ) → length rs ≤ i → First rs w n i i
-  first_past i h = record { same = refl; has = λ l. absurd (omega arith) }
-
-  -- place p looked at, after those from i on
-  first_miss : (p i at : ℕ) → p + 1 ≡ i → i ≤ length rs → bit w p && eqb (number_of (get_or rs p zero_record)) n ≡ false → First rs w n i at → First rs w n p at
-  first_miss p i at e h t f =
-      record { same = look-next rs w p n zero_record (omega arith) t ∙ ap (λ k. look n (drop k (places_of w rs))) e ∙ f.same; has = f.has }
-
-  pub first_free : (p i at : ℕ) → p + 1 ≡ i → i ≤ length rs → bit w p ≡ false → First rs w n i at → First rs w n p at
-  first_free p i at e h t f = first_miss p i at e h (ap (λ b. b && eqb (number_of (get_or rs p zero_record)) n) t) f
-
-  pub first_used : (p i at to : ℕ) → p + 1 ≡ i → i ≤ length rs → bit w p ≡ true → to ≡ cond (eqb (number_of (get_or rs p zero_record)) n) p at
-      → First rs w n i at → First rs w n p to
-  first_used p i at to e h t g f =
-      let b : bit w p && eqb (number_of (get_or rs p zero_record)) n ≡ eqb (number_of (get_or rs p zero_record)) n = ap (λ b. b && eqb (number_of (get_or rs p zero_record)) n) t in
-      by_test (eqb (number_of (get_or rs p zero_record)) n)
-      (λ y. subst (First rs w n p) (sym (g ∙ ap (λ x. cond x p at) y)) (record { same = refl; has = λ l. b ∙ y }))
-      (λ y. subst (First rs w n p) (sym (g ∙ ap (λ x. cond x p at) y)) (first_miss p i at e h (b ∙ y) f))
-
-  -- and once all are, that is the number's seat
-  pub first_seats : (i at : ℕ) (r : Record) (seat : Seat) → length rs ≡ place_count → i ≤ 0 → r ≡ get_or rs (at % place_count) zero_record
-      → seat ≡ cond (ltb at place_count) (St.At at r) St.Nothing → First rs w n i at → Seats w rs n seat
-  unfolding H.Seats
-  first_seats i at r seat l z g e f =
-      let y : i ≡ 0 = omega arith in
-      let same = ap (λ k. look n (drop k (places_of w rs))) (sym y) ∙ f.same in
-      by_test (ltb at place_count)
-      (λ t. let h : at < place_count = ltb-true at place_count t in
-      let b = f.has (omega arith) in
-      let m : at % place_count ≡ at = omega arith in
-      subst (Seats w rs n) (sym (e ∙ ap (λ x. cond x (St.At at r) St.Nothing) t)) (
-        record {
-          place = h;
-          used = (and_both (bit w at) _ b).0;
-          at = held_at rs w at n zero_record (omega arith) b;
-          number = number-held w at n (get_or rs at zero_record) b;
-          here = same ∙ look-here rs w at n zero_record (omega arith) b;
-        },
-        g ∙ ap (λ k. get_or rs k zero_record) m,
-      ))
-      (λ t. let h : place_count ≤ at = ltb-false at place_count t in
-      subst (Seats w rs n) (sym (e ∙ ap (λ x. cond x (St.At at r) St.Nothing) t)) (same ∙ look-past rs w at n (omega arith)))
+pub unhinted_none : (n : ℕ) (ps : List Place) (l : Look) → Hinted ps l → get_or l.hints (n % 64) 0 ≡ 0 → look n ps ≡ nowhere
+unhinted_none n ps l s z = look_unused n ps (unhinted n ps l s z)
 
 -- what fails from a place on fails of the whole
 pub distinct_back : (ps : List Place) (i : ℕ) → distinct (drop i ps) ≡ false → distinct ps ≡ false
@@ -191,12 +142,13 @@ pub found_at : (rs : List Record) (w i n : ℕ) (z : Record) → i < length rs �
     → look n (places_of w rs) ≡ found (get_or rs i z)
 found_at rs w i n z h d t = look_later (places_of w rs) i n d (used_stop rs w i n z h t) ∙ look-here rs w i n z h t
 
--- a turn of the scan for it that found nothing: turn 0 is at any place, and turn j at place j - 1
-pub scan_more : (rs : List Record) (w i j n : ℕ) (z : Record) → i < length rs → (0 < j → i + 1 ≡ j) → bit w i && eqb (number_of (get_or rs i z)) n ≡ false
-    → look n (places_of w rs) ≡ look n (drop (j - 1) (places_of w rs)) → look n (places_of w rs) ≡ look n (drop (j + 1 - 1) (places_of w rs))
-scan_more rs w i zero n z h g t e = refl
-scan_more rs w i (suc j) n z h g t e =
-    let f : i + 1 ≡ suc j = g (omega arith) in
-    let a : suc j - 1 ≡ i = omega arith in
-    let b : i + 1 ≡ suc j + 1 - 1 = omega arith in
-    e ∙ ap (λ k. look n (drop k (places_of w rs))) a ∙ look-next rs w i n z h t ∙ ap (λ k. look n (drop k (places_of w rs))) b
+-- a used place with the number is where its record stands
+pub place_found : (t : D.Table) (i n : ℕ) → i < place_count → length t.records ≡ place_count → distinct (places_in t) ≡ true → bit t.used i && eqb (number_of (get_or t.records i zero_record)) n ≡ true → HeldAt t n i
+place_found t i n h l d b =
+    record {
+      place = h;
+      used = (and_both (bit t.used i) _ b).0;
+      at = held_at t.records t.used i n zero_record (omega arith) b;
+      number = number-held t.used i n (get_or t.records i zero_record) b;
+      here = found_at t.records t.used i n zero_record (omega arith) d b;
+    }

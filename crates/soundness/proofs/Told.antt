@@ -1,94 +1,69 @@
--- What was seen of a channel, case by case, and what a call promises that makes a change by it.
+-- What a call does with what `see` told it: laws over any call that asks for a confirmed record.
 -- Assumes nothing.
-use Prim.Native.Nat.{ℕ, ◌≤◌, ◌<◌}
-use mathlib.Core.Path.{◌≡◌, refl, sym, ap, ◌∙◌}
-use mathlib.Core.Bool.{Bool, true}
-use mathlib.Core.List.{List}
-use lib.ListN.{length, set}
-use native.Mathlib.Omega.{arith}
-use Rattle.laws.specs.Bits.{bit}
+use Rattle.std.proofs.Common.{ℕ, ◌≡◌, sym, ◌∙◌, Bool, true, false, Option, Some, None, Result, Ok, Err, IsErrAnd}
 use Rattle.channel.specs.declared.Record.{Record}
-use Rattle.channel.specs.declared.Table as D
 use Rattle.channel.specs.declared.Refusal.{Refusal}
-use Rattle.channel.specs.State.{place_count, most_bytes, nowhere, look}
-use Rattle.channel.specs.Call.{Call, Act, Answer, act}
-use Rattle.channel.specs.Raw.{places_of}
+use Rattle.channel.specs.State.{number_of, look, any_entry}
+use Rattle.channel.specs.Call.{Call, Answer}
+use Rattle.channel.specs.Decide.{Decision, passing, serves}
+use Rattle.channel.specs.Step.{apply, step}
+use Rattle.channel.specs.Raw.{Raw, meaning}
 use Rattle.channel.specs.Sound.{is_sound}
-use Rattle.channel.specs.Called.{Typed, lent, outcome, called}
-use Rattle.channel.specs.Answers.{refusal}
+use Rattle.channel.specs.Called.{Typed, called}
+use Rattle.channel.specs.Answers.{refusal, answer}
 use Rattle.channel.specs.Answers as A
-use Rattle.lookup.specs.declared.Change.{Change}
-use Rattle.lookup.specs.Update.{placed, counted}
-use Rattle.lookup.specs.Changed.{kept_of, applied}
-use Rattle.lookup.proofs.Limits.{limits}
-use Rattle.lookup.proofs.Branch.{refusal_is}
+use Rattle.lookup.specs.Held.{record_at}
+use Rattle.lookup.proofs.Decided.{serves-is, none_passes, held_fails, held_passes, held_has}
 use Rattle.lookup.proofs.Branch as B
-use Rattle.lookup.proofs.Changes.{all-kept, kept-fits, recorded, recorded-is}
-use Rattle.soundness.specs.declared.Seen.{Seen}
-use Rattle.soundness.specs.declared.Seen.TheVariants.{Unsound, Unknown, At}
-use Rattle.soundness.specs.Sees as W
-use Rattle.soundness.specs.Sees.{Sees, SeenAs, SeenAt, SeenIn, Gives, soundly}
-use Rattle.soundness.specs.Tested.{Tested}
+use Rattle.soundness.specs.declared.Found.{Found}
+use Rattle.soundness.specs.Sees.{FoundIn, LookedUp, TestedAs, SeenAs, Missed, unsound, unknown}
 
--- BY WHAT WAS SEEN
+-- `see` hands an unsound state on
+pub seen_unsound : (r : Raw) (n : ℕ) (x : Result Found Refusal) {k : Refusal} → IsErrAnd x (λ e. e ≡ k) → (is_sound r ≡ false) × (k ≡ Refusal.State) → SeenAs r n x
+seen_unsound r n (Ok f) e u = absurd e
+seen_unsound r n (Err j) e u = rw (e ∙ u.1) (unsound u.0)
 
-sound_as : (t : D.Table) (queue staged sent : List ℕ) (n : ℕ) (s : Seen) → SeenAs t queue staged sent n s → is_sound (lent t queue staged sent) ≡ soundly s
-unfolding W.SeenAs
-sound_as t queue staged sent n Unsound e = e
-sound_as t queue staged sent n Unknown e = e.0
-sound_as t queue staged sent n (At i r waits) e = e.sound
+-- and so does the test
+pub tested_unsound : (r : Raw) (x : Result (Unit {0}) Refusal) {k : Refusal} → IsErrAnd x (λ e. e ≡ k) → (is_sound r ≡ false) × (k ≡ Refusal.State) → TestedAs r x
+tested_unsound r (Ok u) e v = absurd e
+tested_unsound r (Err j) e v = (v.0, e ∙ v.1)
 
-pub tested : {t : D.Table} {queue staged sent : List ℕ} {n : ℕ} {s : Seen} {b : Bool} → Sees t queue staged sent n s → b ≡ soundly s → Tested t queue staged sent b
-tested {t = t} {queue = queue} {staged = staged} {sent = sent} {n = n} {s = s} e h = record { is = h ∙ sym (sound_as t queue staged sent n s e.is); typed = e.typed }
+-- what was looked up in it, a record or none, is of a sound state
+pub sound_in : (r : Raw) (n : ℕ) (x : Option Found) → LookedUp r n (Ok x) → is_sound r ≡ true
+sound_in r n (Some f) u = u.sound
+sound_in r n None u = u.0
 
-module _ {t : D.Table} {queue staged sent : List ℕ} {n : ℕ} {s : Seen} (z : Sees t queue staged sent n s) where
-  pub unsound : s ≡ Unsound → (k : Call) → called (lent t queue staged sent) k ≡ record { answer = refusal Refusal.State; state = lent t queue staged sent }
-  unfolding W.SeenAs A.refusal A.refusal_number
-  unsound v k = B.unsound (lent t queue staged sent) k (rw v at z.is)
+-- and so does a call
+pub passed_unsound : {A : Type 0} (r : Raw) (c : Call) (g : A → Answer) (x : Result A Refusal) {k : Refusal} → IsErrAnd x (λ e. e ≡ k) → (is_sound r ≡ false) × (k ≡ Refusal.State)
+    → record { answer = answer g x; state = r } ≡ called r c
+unfolding A.answer A.refusal A.refusal_number
+passed_unsound r c g (Ok a) e u = absurd e
+passed_unsound r c g (Err j) e u = rw (e ∙ u.1) (sym (B.unsound r c u.0))
 
-  pub none : s ≡ Unknown → (is_sound (lent t queue staged sent) ≡ true) × (look n (places_of t.used t.records) ≡ nowhere)
-  unfolding W.SeenAs
-  none v = rw v at z.is
+-- the call is what f decides of the record with the number n, if there is one and it is confirmed
+pub record Asks (r : Raw) (n : ℕ) (c : Call) (b : Bool) (f : Record → Decision) : Type 0 where
+  pub by : (o : Decision) → passing serves (look n (meaning r).table.places) f ≡ o → step (meaning r) c ≡ apply (meaning r) b o
 
-  pub seen : {i : ℕ} {r : Record} {waits : Bool} → s ≡ At i r waits → SeenAt t queue staged sent n i r waits
-  unfolding W.SeenAs
-  seen v = rw v at z.is
+module _ {r : Raw} (ty : Typed r) {n : ℕ} {c : Call} {b : Bool} {f : Record → Decision} (asks : Asks r n c b f) where
+  pub missed : {k : Refusal} → Missed r n k → called r c ≡ record { answer = refusal k; state = r }
+  unfolding A.refusal A.refusal_number
+  missed (unsound e) = B.unsound r c e
+  missed (unknown s e) = B.refusing r ty s c b 2 (asks.by _ (none_passes r n e serves f))
 
--- the place of a record that was seen is used, and staged is in its bounds
-pub ready : {t : D.Table} {staged : List ℕ} {i : ℕ} {s : Seen} {r : Record} {waits : Bool} → s ≡ At i r waits → SeenIn t staged s
-    → (i < place_count) × (bit t.used i ≡ true) × (t.staged_used ≤ length staged) × (length staged ≤ most_bytes)
-ready {t} {staged} v p =
-    let y = seen p.sees v in
-    let b = limits (lent t p.queue staged p.sent) y.sound in
-    (y.held.place, y.held.used, b.staged_used, b.staged_long)
+  -- the same where `?` hands it on
+  pub passed_on : {A : Type 0} (g : A → Answer) (x : Result A Refusal) {k : Refusal} → IsErrAnd x (λ e. e ≡ k) → Missed r n k → record { answer = answer g x; state = r } ≡ called r c
+  unfolding A.answer
+  passed_on g (Ok a) e m = absurd e
+  passed_on g (Err j) e m = sym (missed (rw (sym e) at m))
 
--- WHAT A CALL GIVES
+  module _ {x : Found} (h : FoundIn r n x) where
+    pub unconfirmed : (record_at r.held x.place).confirmed ≡ false → called r c ≡ record { answer = refusal Refusal.Unconfirmed; state = r }
+    unfolding A.refusal A.refusal_number
+    unconfirmed e = B.refusing r ty h.sound c b 3 (asks.by _ (held_fails r n x.place h.held serves f (serves-is (record_at r.held x.place) ∙ e)))
 
-module _ (t : D.Table) (s : Seen) (staged : List ℕ) (call : ℕ → Act) where
-  -- the call, whose last step is the change
-  pub whole : (a : Answer) (c : Change) (after queue sent : List ℕ) (n : ℕ) {x : D.Table} → Gives t s staged after c a call → Sees t queue staged sent n s → x ≡ applied t c
-      → outcome a x queue after sent ≡ called (lent t queue staged sent) (act (call n))
-  unfolding W.Gives
-  whole a c after queue sent n f z p = ap (λ y. outcome a y queue after sent) p ∙ (f queue sent n z).1
+    pub confirmed : (record_at r.held x.place).confirmed ≡ true → step (meaning r) c ≡ apply (meaning r) b (f (record_at r.held x.place))
+    confirmed e = asks.by _ (held_passes r n x.place h.held serves f (serves-is (record_at r.held x.place) ∙ e))
 
-  -- nothing changes
-  pub refusing : (k : Refusal) {c : Change} → c ≡ kept_of t
-      → ((queue sent : List ℕ) (n : ℕ) → Sees t queue staged sent n s → called (lent t queue staged sent) (act (call n)) ≡ record { answer = refusal k; state = lent t queue staged sent })
-      → Gives t s staged staged c (refusal k) call
-  unfolding W.Gives
-  refusing k q f = rw q (λ queue sent n z. (kept-fits t, refusal_is (lent t queue staged sent) refl (all-kept t) ∙ sym (f queue sent n z)))
-
-  pub refusing_unsound : {c : Change} → s ≡ Unsound → c ≡ kept_of t → Gives t s staged staged c (refusal Refusal.State) call
-  refusing_unsound v q = refusing Refusal.State q (λ queue sent n z. unsound z v (act (call n)))
-
-  -- another record at its place, used word, and count and bytes of staged
-  pub going : {i : ℕ} {r : Record} {waits : Bool} → s ≡ At i r waits → (a : Answer) (x : Record) (used m : ℕ) (after : List ℕ)
-      → ((queue sent : List ℕ) (n : ℕ) → SeenAt t queue staged sent n i r waits → Typed (lent t queue staged sent)
-      → called (lent t queue staged sent) (act (call n)) ≡ outcome a (counted (placed t t.last used (set t.records i x)) m t.sent_used) queue after sent)
-      → Gives t s staged after (recorded (kept_of t) t.last used i x m) a call
-  unfolding W.Gives
-  going {i = i} v a x used m after f queue sent n z =
-      let y = seen z v in (
-        record { place = y.held.place; slot = omega arith },
-        ap (λ u. outcome a u queue after sent) (recorded-is t t.last used i x m) ∙ sym (f queue sent n y z.typed),
-      )
+-- whether the channel has an entry, as a decision asks
+pub has_entry : {r : Raw} {n : ℕ} {x : Found} → FoundIn r n x → {b : Bool} → x.waits ≡ b → any_entry (number_of (record_at r.held x.place)) (meaning r).table.entries ≡ b
+has_entry {r} {n} {x} h w = held_has r n x.place h.held ∙ sym h.waits_is ∙ w

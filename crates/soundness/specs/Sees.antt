@@ -1,52 +1,49 @@
 -- What a call learns of the state and of its channel before it decides.
 -- Assumes nothing.
-use Rattle.std.specs.Prelude.{ℕ, ◌≡◌, Bool, true, false, List, []}
-use Rattle.channel.specs.declared.Table as D
-use Rattle.channel.specs.declared.Record.{Record}
+use Rattle.std.specs.Prelude.{ℕ, ◌≡◌, true, false, [], Option, Some, None, Result, Ok, Err}
+use Rattle.channel.specs.declared.Refusal.{Refusal}
 use Rattle.channel.specs.State.{nowhere, look, any_entry}
-use Rattle.channel.specs.Raw.{places_of, entries_of}
+use Rattle.channel.specs.Raw.{Raw, places_of, entries_of}
 use Rattle.channel.specs.Sound.{is_sound}
-use Rattle.channel.specs.Call.{Act, Answer, act}
-use Rattle.channel.specs.Called.{Typed, lent, outcome, called}
-use Rattle.lookup.specs.declared.Change.{Change}
-use Rattle.lookup.specs.Held.{HeldAt, record_at}
-use Rattle.lookup.specs.Changed.{Fits, applied}
-use Rattle.soundness.specs.declared.Seen.{Seen}
-use Rattle.soundness.specs.declared.Seen.TheVariants.{Unsound, Unknown, At}
+use Rattle.channel.specs.Called.{Typed}
+use Rattle.lookup.specs.Held.{HeldAt}
+use Rattle.soundness.specs.declared.Found.{Found}
 
--- the state is sound, and the channel's record is r, at place i, with entries or without
-pub record SeenAt (t : D.Table) (queue staged sent : List ℕ) (n i : ℕ) (r : Record) (waits : Bool) : Type 0 where
-  pub sound : is_sound (lent t queue staged sent) ≡ true
-  pub held : HeldAt t n i
-  pub record_is : r ≡ record_at t i
-  pub waits_is : waits ≡ any_entry n (entries_of t.entry_count t.entries [])
+-- the state is sound, and the channel's record stands at that place, with entries or without
+pub record FoundIn (r : Raw) (n : ℕ) (f : Found) : Type 0 where
+  pub sound : is_sound r ≡ true
+  pub held : HeldAt r.held n f.place
+  pub waits_is : f.waits ≡ any_entry n (entries_of r.held.entry_count r.held.entries [])
 
-unfoldable pub SeenAs : D.Table → List ℕ → List ℕ → List ℕ → ℕ → Seen → Type 0
-SeenAs t queue staged sent n Unsound = is_sound (lent t queue staged sent) ≡ false
-SeenAs t queue staged sent n Unknown = (is_sound (lent t queue staged sent) ≡ true) × (look n (places_of t.used t.records) ≡ nowhere)
-SeenAs t queue staged sent n (At i r waits) = SeenAt t queue staged sent n i r waits
+-- what was found in it: a record, none, or that it is not sound
+abbrev pub LookedUp : Raw → ℕ → Result (Option Found) Refusal → Type 0
+LookedUp r n (Ok (Some f)) = FoundIn r n f
+LookedUp r n (Ok None) = (is_sound r ≡ true) × (look n (places_of r.held.used r.held.records) ≡ nowhere)
+LookedUp r n (Err k) = (is_sound r ≡ false) × (k ≡ Refusal.State)
 
 -- that, and what the types say of the state
-pub record Sees (t : D.Table) (queue staged sent : List ℕ) (n : ℕ) (s : Seen) : Type 0 where
-  pub is : SeenAs t queue staged sent n s
-  pub typed : Typed (lent t queue staged sent)
+pub record LooksUp (r : Raw) (n : ℕ) (s : Result (Option Found) Refusal) : Type 0 where
+  pub is : LookedUp r n s
+  pub typed : Typed r
 
--- the state that was seen is sound
-abbrev pub soundly : Seen → Bool
-soundly Unsound = false
-soundly Unknown = true
-soundly (At i r waits) = true
+-- the test alone
+abbrev pub TestedAs : Raw → Result (Unit {0}) Refusal → Type 0
+TestedAs r (Ok u) = is_sound r ≡ true
+TestedAs r (Err k) = (is_sound r ≡ false) × (k ≡ Refusal.State)
 
--- WHAT A CALL MAKES OF IT
+pub record Tests (r : Raw) (s : Result (Unit {0}) Refusal) : Type 0 where
+  pub is : TestedAs r s
+  pub typed : Typed r
 
--- some state with this table and this staged was seen so
-pub record SeenIn (t : D.Table) (staged : List ℕ) (s : Seen) : Type 0 where
-  pub queue : List ℕ
-  pub sent : List ℕ
-  pub number : ℕ
-  pub sees : Sees t queue staged sent number s
+-- the same where none is a refusal
+pub data Missed (r : Raw) (n : ℕ) : Refusal → Type 0 where
+  unsound : is_sound r ≡ false → Missed r n Refusal.State
+  unknown : is_sound r ≡ true → look n (places_of r.held.used r.held.records) ≡ nowhere → Missed r n Refusal.Unknown
 
--- whichever state it was, the change can be made, and the answer, the table with it and what is then in staged are the call's
-unfoldable pub Gives : D.Table → Seen → List ℕ → List ℕ → Change → Answer → (ℕ → Act) → Type 0
-Gives t s staged after c a call =
-    (queue sent : List ℕ) (n : ℕ) → Sees t queue staged sent n s → Fits c × (outcome a (applied t c) queue after sent ≡ called (lent t queue staged sent) (act (call n)))
+abbrev pub SeenAs : Raw → ℕ → Result Found Refusal → Type 0
+SeenAs r n (Ok f) = FoundIn r n f
+SeenAs r n (Err k) = Missed r n k
+
+pub record Sees (r : Raw) (n : ℕ) (s : Result Found Refusal) : Type 0 where
+  pub is : SeenAs r n s
+  pub typed : Typed r

@@ -1,18 +1,12 @@
--- What the test tells its callers, and its parts in the order in which the code decides them.
+-- The test's parts, in the order in which the code decides them.
 -- Assumes nothing.
-use Rattle.std.specs.Prelude.{ℕ, ◌≤◌, ◌≡◌, Bool, true, false, ◌&&◌, List, [], length, drop, leb, eqb}
+use Rattle.std.specs.Prelude.{ℕ, ◌%◌, ◌≤◌, ◌≡◌, Bool, true, false, ◌&&◌, List, [], length, drop, get_or, leb, eqb, Option, Some, None}
 use Rattle.channel.specs.declared.Table as D
-use Rattle.channel.specs.State.{place_count, most_entries, most_bytes, Place, Entry, any_entry}
+use Rattle.channel.specs.declared.Entry as E
+use Rattle.channel.specs.State.{place_count, most_entries, most_bytes, Place, Entry, is_used, any_entry}
 use Rattle.channel.specs.Raw.{Raw, places_of, entries_of}
-use Rattle.channel.specs.Sound.{unused_zero, entries_zero, distinct, all_named, sum_left, all_marked, is_sound}
-use Rattle.channel.specs.Called.{Typed, lent}
-use Rattle.lookup.specs.declared.Seat.{Seat}
-use Rattle.lookup.specs.Held.{Seats}
-
--- the test's answer, and what the types say of the state
-pub record Tested (t : D.Table) (queue staged sent : List ℕ) (b : Bool) : Type 0 where
-  pub is : b ≡ is_sound (lent t queue staged sent)
-  pub typed : Typed (lent t queue staged sent)
+use Rattle.channel.specs.Sound.{unused_zero, entries_zero, distinct, all_named, sum_left, all_marked}
+use Rattle.soundness.specs.declared.Look.{Look}
 
 -- what the parts know of the table: what its types say of its arrays, and its entry count
 pub record Sized (t : D.Table) : Type 0 where
@@ -34,23 +28,31 @@ places_in t = places_of t.used t.records
 abbrev pub entries_in : D.Table → List Entry
 entries_in t = entries_of t.entry_count t.entries []
 
+-- the same of a list of entries
+abbrev pub listed : List E.Entry → List Entry
+listed es = entries_of (length es) es []
+
 -- what one look over the table decides
 unfoldable pub tidy : D.Table → Bool
 tidy t = unused_zero t.used t.records && (entries_zero (drop t.entry_count t.entries) && distinct (places_in t))
 
--- and, if it is so, that without a mark every mark has an entry, and where the record with the number n stands
-pub record LookedOver (t : D.Table) (n : ℕ) (b marked : Bool) (seat : Seat) : Type 0 where
-  pub is : b ≡ tidy t
-  pub unmarked : b ≡ true → marked ≡ false → (es : List Entry) → all_marked es (places_in t) ≡ true
-  pub seated : b ≡ true → Seats t.used t.records n seat
+-- no number is used twice, a used number has a hint, and where no mark was seen every mark has an entry
+pub record Hinted (ps : List Place) (l : Look) : Type 0 where
+  pub apart : distinct ps ≡ true
+  pub hinted : (n : ℕ) → is_used n ps ≡ true → eqb (get_or l.hints (n % 64) 0) 0 ≡ false
+  pub unmarked : l.marked ≡ false → (es : List Entry) → all_marked es ps ≡ true
+
+abbrev pub LookedOver : D.Table → Option Look → Type 0
+LookedOver t None = tidy t ≡ false
+LookedOver t (Some l) = (tidy t ≡ true) × Hinted (places_in t) l
 
 unfoldable pub entries_sound : D.Table → Bool
 entries_sound t = all_named (places_in t) (entries_in t) && eqb (sum_left t.entry_count t.entries) t.queue_used
 
 -- and, if they are sound, whether one has the number n
-pub record EntriesTold (t : D.Table) (n : ℕ) (b waits : Bool) : Type 0 where
-  pub is : b ≡ entries_sound t
-  pub waits_is : b ≡ true → waits ≡ any_entry n (entries_in t)
+abbrev pub EntriesTold : D.Table → ℕ → Option Bool → Type 0
+EntriesTold t n None = entries_sound t ≡ false
+EntriesTold t n (Some waits) = (entries_sound t ≡ true) × (waits ≡ any_entry n (entries_in t))
 
 unfoldable pub marks_sound : D.Table → Bool
 marks_sound t = all_marked (entries_in t) (places_in t)

@@ -1,23 +1,23 @@
-// The test behind answer 1, which finds a call's channel on the way. Every call pays for it: a function that takes an element of the
-// table's arrays copies the table first, and one that only reads its counts or hands it on does not. So one function looks over the
-// places and the unused entries, and the functions for entries and marks copy the table only where it has some.
+// The test behind answer 1, which finds a call's channel on the way. Every call pays for it, and a table comes from outside and is believed
+// in nothing.
 #![tactic(auto)]
 
-ghost use Rattle.std.specs.Prelude.{◌≡◌, true, false, ◌&&◌, cond, ◌+◌, ◌≤◌, ◌<◌, ◌%◌, eqb, ltb, length, take};
-ghost use Rattle.laws.specs.Bits.{bit};
-ghost use Rattle.channel.specs.State.{place_count, numbers_in_all};
-ghost use Rattle.channel.specs.Sound.{is_zero, is_zero_entry, is_marked, distinct, whole_frames};
+ghost use Rattle.std.specs.Prelude.{◌≡◌, true, ◌%◌, ◌≤◌, length, take, drop};
+ghost use Rattle.channel.specs.State.{place_count, is_used, any_entry};
+ghost use Rattle.channel.specs.Sound.{is_zero, is_zero_entry, entries_zero, distinct, whole_frames};
 ghost use Rattle.channel.specs.Called.{lent};
-ghost use Rattle.soundness.specs.Tested.{Sized, places_in, limited, LookedOver, EntriesTold, marks_sound};
-ghost use Rattle.soundness.specs.Sees.{Sees, soundly};
+ghost use Rattle.lookup.specs.Held.{PlaceIs};
+ghost use Rattle.soundness.specs.Tested.{Sized, places_in, entries_in, limited, Hinted, LookedOver, EntriesTold, marks_sound};
+ghost use Rattle.soundness.specs.Sees.{LooksUp, Tests, Sees};
 
-use channel::{ChannelId, Entry, Record, Table};
+use channel::{ChannelId, Entry, Record, Refusal, Table, typed};
 use frames::frame_at;
-use lookup::{Seat, entry_has, place_has};
+use lookup::{place_has, place_used};
 
-// Every field is zero.
-fn is_zero(r: Record) -> bool
-    ensures { result ≡ is_zero r }
+// Every field is zero. By field: tried `==` with `zero_record()`, which proves, but the test over an empty table took 1.4 times as long
+// with it here and in `is_zero_entry`.
+fn is_zero(r: &Record) -> bool
+    ensures { result ≡ is_zero r.now }
 {
     (r.sender_channel.0 == 0)
         & (r.recipient_channel.0 == 0)
@@ -31,34 +31,18 @@ fn is_zero(r: Record) -> bool
         & !r.pending_close
 }
 
-// Every field is zero.
-fn is_zero_entry(e: Entry) -> bool
-    ensures { result ≡ is_zero_entry e }
+// Every field is zero. By field: tried `==` with `zero_entry()`, which proves, but the test over an empty table took 1.3 times as long.
+fn is_zero_entry(e: &Entry) -> bool
+    ensures { result ≡ is_zero_entry e.now }
 {
     (e.number.0 == 0) & !e.kind.extended & (e.kind.code == 0) & (e.left == 0)
 }
 
-// Place i is used.
-fn place_used(used: u32, i: usize) -> bool
-    requires { i < place_count }
-    ensures { result ≡ bit used i }
+// Every entry is zero.
+fn all_zero(entries: &[Entry]) -> bool
+    ensures { result ≡ entries_zero entries.now }
 {
-    (used >> i) % 2 == 1
-}
-
-// Place i, with its record, is used and has a mark.
-fn place_marked(used: u32, i: usize, r: Record) -> bool
-    requires { i < place_count }
-    ensures { result ≡ bit used i && is_marked r }
-{
-    ((used >> i) % 2 == 1) & (r.pending_eof | r.pending_close)
-}
-
-// The entry's bytes left, as a number that 64 of them can be added up in.
-fn left_of(e: Entry) -> usize
-    ensures { (result ≡ e.left) × (result < numbers_in_all) }
-{
-    e.left as usize
+    entries.iter().all(is_zero_entry)
 }
 
 // Where a number's hint stands.
@@ -68,249 +52,153 @@ fn slot(n: ChannelId) -> usize
     (n.0 % 64) as usize
 }
 
-// The hint at a slot: one more than a place whose number has that slot, and 0 where there is none.
-fn hint(i: usize) -> u8
-    requires { i < place_count }
-    ensures { result ≡ i + 1 }
-{
-    (i + 1) as u8
-}
-
-// From where on to look for the number of place i among the later places: with no hint there is none.
-fn scan_from(h: u8, i: usize) -> usize
-    requires { i < place_count }
-    ensures { (result ≤ place_count) × (result ≡ cond (eqb h 0) place_count (i + 1)) }
-{
-    if h == 0 {
-        return 32;
-    }
-    i + 1
-}
-
-// The place to look at in turn j: first the one that the hint names, then every place in order.
-fn tried(h: u8, j: usize) -> usize
-    requires { j ≤ place_count }
-    ensures { (result < place_count) × (0 < j → result + 1 ≡ j) }
-{
-    if j == 0 {
-        return (h as usize + 31) % 32;
-    }
-    j - 1
-}
-
-// What a look over a table leaves: whether that much of it is sound, whether a used place has a mark, where a number's record stands, and
-// the hints, which are tested before they are believed.
+// What a look over the places leaves: for each slot one more than a place whose number has it, and 0 where there is none, and whether a
+// used place has a mark. A hint is tested before it is believed. As `Option<u8>` the hints would be twice as many bytes to set at each
+// call.
 #[derive(Clone, Copy)]
 struct Look {
-    sound: bool,
-    marked: bool,
-    seat: Seat,
     hints: [u8; 64],
+    marked: bool,
 }
 
-// A look that failed.
-fn unsound() -> Look
-    ensures { result.sound ≡ false }
+// `Sized`, here and below, is what the type of a lent table says, and what the check does not know of another crate's type: `typed` tells
+// it. It is no invariant of the type, since C passes a table of any bytes.
+
+// The number is used at a place from `first` on.
+fn used_from(t: &Table, first: usize, n: ChannelId) -> bool
+    requires sized { Sized t.now }
+    requires first_in { first ≤ place_count }
+    ensures { result ≡ is_used n.0 (drop first (places_in t.now)) }
 {
-    let hints = [0u8; 64];
-    Look {
-        sound: false,
-        marked: false,
-        seat: Seat::Nothing,
-        hints,
+    for i in first..t.records.len() {
+        if place_has(t, i, n) {
+            return true;
+        }
     }
+    false
 }
 
-// The first place with the number n from place i on: i itself, if its number m is that, or else the first after it.
-fn first_of(i: usize, m: ChannelId, after: usize, n: ChannelId) -> usize
-    ensures { result ≡ cond (eqb m.0 n.0) i after }
+// The places, from the last to the first, and the unused entries: those not used are zero, and no number is used twice.
+fn look_over(t: &Table) -> Option<Look>
+    requires { Sized t.now }
+    ensures { LookedOver t.now result }
 {
-    if m.0 == n.0 {
-        return i;
-    }
-    after
-}
-
-// A place with its record, or nothing: one past the last is no place.
-fn seated(at: usize, r: Record) -> Seat
-    ensures { result ≡ cond (ltb at place_count) (Seat.At at r) Seat.Nothing }
-{
-    if at < 32 {
-        return Seat::At(at, r);
-    }
-    Seat::Nothing
-}
-
-// The places, from the last to the first, and the unused entries: those not used are zero, and no number is used twice. The loop keeps
-// the channel's place alone: it would be slower with a record in hand.
-fn look_over(t: Table, n: ChannelId) -> Look
-    requires { Sized t }
-    ensures { LookedOver t n.0 result.sound result.marked result.seat }
-{
-    let used = t.used;
     let mut hints = [0u8; 64];
     let mut marked = false;
-    let mut at: usize = 32;
-    let mut i: usize = 32;
-    while i > 0 {
-        i -= 1;
-        let r = t.records[i];
-        if place_used(used, i) {
-            let m = r.sender_channel;
-            let s = slot(m);
-            let mut j = scan_from(hints[s], i);
-            while j < 32 {
-                if place_has(used, j, t.records[j], m) {
-                    return unsound();
-                }
-                j += 1;
+    for i in (0..t.records.len()).rev() {
+        let r = &t.records[i];
+        if place_used(t, i) {
+            let at = slot(r.sender_channel);
+            if hints[at] != 0 && used_from(t, i + 1, r.sender_channel) {
+                return None;
             }
-            hints[s] = hint(i);
+            hints[at] = (i + 1) as u8;
             marked = marked | r.pending_eof | r.pending_close;
-            at = first_of(i, m, at, n);
         } else if !is_zero(r) {
-            return unsound();
+            return None;
         }
     }
-    for k in t.entry_count..64 {
-        if !is_zero_entry(t.entries[k]) {
-            return unsound();
+    if !all_zero(&t.entries[t.entry_count..]) {
+        return None;
+    }
+    Some(Look { hints, marked })
+}
+
+// The first place that has the number.
+#[cold]
+pub fn scan(t: &Table, n: ChannelId) -> Option<usize>
+    requires { length t.now.records ≡ place_count }
+    ensures { PlaceIs t.now n.0 result }
+{
+    for i in 0..t.records.len() {
+        if place_has(t, i, n) {
+            return Some(i);
         }
     }
-    let seat = seated(at, t.records[at % 32]);
-    Look {
-        sound: true,
-        marked,
-        seat,
-        hints,
-    }
+    None
 }
 
-// What the entries tell: whether they are sound and, if they are, whether one is the channel's.
-#[derive(Clone, Copy)]
-struct Entries {
-    sound: bool,
-    waits: bool,
-}
-
-// Entries that failed.
-fn unnamed() -> Entries
-    ensures { result.sound ≡ false }
+// The place of a number: the one that its hint names, or else the first that has it.
+#[inline]
+fn place_of(t: &Table, look: &Look, n: ChannelId) -> Option<usize>
+    requires sized { Sized t.now }
+    requires hinted { Hinted (places_in t.now) look.now }
+    ensures { PlaceIs t.now n.0 result }
 {
-    Entries {
-        sound: false,
-        waits: false,
+    let hint = look.hints[slot(n)];
+    if hint == 0 {
+        return None;
     }
+    let i = (hint as usize + 31) % 32;
+    if place_has(t, i, n) {
+        return Some(i);
+    }
+    scan(t, n)
 }
 
-// The used entries name confirmed records, and their lengths sum to the queue's used count. Used numbers are distinct, so the first
-// place that has the number is the only one.
-fn entries_named(t: Table, hints: [u8; 64], n: ChannelId) -> Entries
-    requires sized { Sized t }
-    requires places_distinct { distinct (places_in t) ≡ true }
-    ensures { EntriesTold t n.0 result.sound result.waits }
+// The used entries name confirmed records, and their lengths sum to the queue's used count. If so, whether one is the channel's.
+fn entries_named(t: &Table, look: &Look, n: ChannelId) -> Option<bool>
+    requires sized { Sized t.now }
+    requires hinted { Hinted (places_in t.now) look.now }
+    ensures { EntriesTold t.now n.0 result }
 {
-    let used = t.used;
-    let count = t.entry_count;
+    let entries = &t.entries[..t.entry_count];
     let mut sum: usize = 0;
     let mut waits = false;
-    let mut k: usize = 0;
-    'next: while k < count {
-        let e = t.entries[k];
-        let m = e.number;
-        let s = slot(m);
-        let h = hints[s];
-        sum = sum + left_of(e);
-        waits = waits | entry_has(e, n);
-        k += 1;
-        for j in 0..33usize {
-            let i = tried(h, j);
-            let r = t.records[i];
-            if place_has(used, i, r, m) {
-                if r.confirmed {
-                    continue 'next;
-                }
-                return unnamed();
-            }
+    for e in entries {
+        let place = place_of(t, look, e.number)?;
+        if !t.records[place].confirmed {
+            return None;
         }
-        return unnamed();
+        sum += e.left as usize;
+        waits = waits | (e.number == n);
     }
-    Entries {
-        sound: sum == t.queue_used,
-        waits,
+    if sum == t.queue_used {
+        Some(waits)
+    } else {
+        None
     }
 }
 
-// The same, with nothing to look at where there is no entry.
-fn entries_sound(t: Table, hints: [u8; 64], n: ChannelId) -> Entries
-    requires sized { Sized t }
-    requires places_distinct { distinct (places_in t) ≡ true }
-    ensures { EntriesTold t n.0 result.sound result.waits }
+// The channel has an entry.
+fn has_entry(t: &Table, n: ChannelId) -> bool
+    requires { Sized t.now }
+    ensures { result ≡ any_entry n.0 (entries_in t.now) }
 {
-    if t.entry_count == 0 {
-        return Entries {
-            sound: t.queue_used == 0,
-            waits: false,
-        };
-    }
-    entries_named(t, hints, n)
+    t.entries[..t.entry_count].iter().any(|e| e.number == n)
 }
 
 // Every marked channel has an entry.
-fn marks_named(t: Table) -> bool
-    requires { Sized t }
-    ensures { result ≡ marks_sound t }
+fn marks_named(t: &Table) -> bool
+    requires { Sized t.now }
+    ensures { result ≡ marks_sound t.now }
 {
-    let used = t.used;
-    let count = t.entry_count;
-    'next: for i in 0..32usize {
-        let r = t.records[i];
-        let n = r.sender_channel;
-        if place_marked(used, i, r) {
-            let mut k: usize = 0;
-            while k < count {
-                if entry_has(t.entries[k], n) {
-                    continue 'next;
-                }
-                k += 1;
-            }
+    for (i, r) in t.records.iter().enumerate() {
+        if place_used(t, i) & (r.pending_eof | r.pending_close) && !has_entry(t, r.sender_channel) {
             return false;
         }
     }
     true
 }
 
-// The same, with nothing to look at where no used place has a mark.
-fn marks_sound(t: Table, marked: bool) -> bool
-    requires sized { Sized t }
-    requires unmarked { marked ≡ false → marks_sound t ≡ true }
-    ensures { result ≡ marks_sound t }
-{
-    if marked {
-        return marks_named(t);
-    }
-    true
-}
-
-// The first `used` bytes are whole frames, none empty.
+// The first `used` bytes are whole frames, none empty. A step is as long as the frame that stands there: no range or iterator counts it.
 fn whole_frames(staged: &[u8], used: usize) -> bool
     requires { used ≤ length staged.now }
     ensures { result ≡ whole_frames used (take used staged.now) }
 {
-    let mut at: usize = 0;
+    let mut at = 0;
     while at < used {
-        let n = frame_at(staged, used, at);
-        if n == 0 {
+        let Some(n) = frame_at(staged, used, at) else {
             return false;
-        }
-        at = at + n;
+        };
+        at += n;
     }
     true
 }
 
 // No buffer is too long, nor a used count too large.
-fn limits(t: Table, queue: &[u8], staged: &[u8], sent: &[u8]) -> bool
-    ensures { result ≡ limited (lent t queue.now staged.now sent.now) }
+fn within_limits(t: &Table, queue: &[u8], staged: &[u8], sent: &[u8]) -> bool
+    ensures { result ≡ limited (lent t.now queue.now staged.now sent.now) }
 {
     (queue.len() <= 65536)
         & (staged.len() <= 65536)
@@ -321,44 +209,66 @@ fn limits(t: Table, queue: &[u8], staged: &[u8], sent: &[u8]) -> bool
         & (t.entry_count <= 64)
 }
 
-// What a call sees of its channel: that the state is not sound, that no record has the number, or the record's place, the record, and
-// whether the channel has an entry.
+// A channel's record: its place, and whether the channel has an entry.
 #[derive(Clone, Copy)]
-pub enum Seen {
-    Unsound,
-    Unknown,
-    At(usize, Record, bool),
+pub struct Found {
+    pub place: usize,
+    pub waits: bool,
 }
 
-// Whether a state is sound and, if it is, what it has of the channel.
-pub fn see(t: Table, queue: &[u8], staged: &[u8], sent: &[u8], n: ChannelId) -> Seen
-    ensures { Sees t queue.now staged.now sent.now n.0 result }
+// Tests the state, and looks a channel's record up in it. Table and buffers are parameters, here and in every call, and no struct: each call
+// borrows by `&` what it only reads, and a struct of four `&mut` would ask more of its callers, those of the C interface among them.
+pub fn look_up(
+    t: &Table,
+    queue: &[u8],
+    staged: &[u8],
+    sent: &[u8],
+    n: ChannelId,
+) -> Result<Option<Found>, Refusal>
+    ensures { LooksUp (lent t.now queue.now staged.now sent.now) n.0 result }
 {
-    if limits(t, queue, staged, sent) {
-        let look = look_over(t, n);
-        if look.sound {
-            let hints = look.hints;
-            let entries = entries_sound(t, hints, n);
-            if entries.sound & marks_sound(t, look.marked) & whole_frames(staged, t.staged_used) {
-                let seat = look.seat;
-                return match seat {
-                    Seat::Nothing => Seen::Unknown,
-                    Seat::At(i, r) => Seen::At(i, r, entries.waits),
-                };
-            }
-        }
+    typed(t, queue, staged, sent);
+    if !within_limits(t, queue, staged, sent) {
+        return Err(Refusal::State);
     }
-    Seen::Unsound
+    let Some(look) = look_over(t) else {
+        return Err(Refusal::State);
+    };
+    let Some(waits) = entries_named(t, &look, n) else {
+        return Err(Refusal::State);
+    };
+    if look.marked && !marks_named(t) {
+        return Err(Refusal::State);
+    }
+    if !whole_frames(staged, t.staged_used) {
+        return Err(Refusal::State);
+    }
+    match place_of(t, &look, n) {
+        Some(place) => Ok(Some(Found { place, waits })),
+        None => Ok(None),
+    }
 }
 
-// Whether what was seen is of a sound state. A call without a number asks `see` for any and then this: a function that took the table
-// and handed it on to `see` would copy it once more.
-pub fn is_sound(s: Seen) -> bool
-    ensures { result ≡ soundly s }
+// The test alone, for a call that asks for no channel: any number does.
+pub fn test(t: &Table, queue: &[u8], staged: &[u8], sent: &[u8]) -> Result<(), Refusal>
+    ensures { Tests (lent t.now queue.now staged.now sent.now) result }
 {
-    match s {
-        Seen::Unsound => false,
-        Seen::Unknown => true,
-        Seen::At(_, _, _) => true,
+    look_up(t, queue, staged, sent, ChannelId(0))?;
+    Ok(())
+}
+
+// Looks up for a call that is refused where there is no such record.
+pub fn see(
+    t: &Table,
+    queue: &[u8],
+    staged: &[u8],
+    sent: &[u8],
+    n: ChannelId,
+) -> Result<Found, Refusal>
+    ensures { Sees (lent t.now queue.now staged.now sent.now) n.0 result }
+{
+    match look_up(t, queue, staged, sent, n)? {
+        Some(found) => Ok(found),
+        None => Err(Refusal::Unknown),
     }
 }

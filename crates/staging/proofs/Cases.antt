@@ -13,7 +13,7 @@ use Rattle.channel.specs.Wire.{frames}
 use Rattle.channel.specs.Call.{flush_staged, drain, gave, done, held, moved}
 use Rattle.channel.specs.Step.{fitting, move}
 use Rattle.channel.specs.Step as S
-use Rattle.channel.specs.Raw.{Raw, meaning, written, messages_of}
+use Rattle.channel.specs.Raw.{Raw, meaning, written}
 use Rattle.channel.specs.Raw as R
 use Rattle.channel.specs.Sound.{is_sound}
 use Rattle.channel.specs.Called.{Typed, Outcome, called, outcome}
@@ -55,18 +55,16 @@ module _ (r : Raw) (ty : Typed r) (sd : is_sound r ≡ true) where
         sent = se i;
       }
 
-  pub moved-is : (k n : ℕ) → k ≡ fitting (length r.sent - r.held.sent_used) (messages_of r.held.staged_used (take r.held.staged_used r.staged))
-      → n ≡ length (frames (take k (messages_of r.held.staged_used (take r.held.staged_used r.staged)))) → n ≤ length r.sent - r.held.sent_used
+  pub moved-is : (k n : ℕ) → k ≡ fitting (length r.sent - r.held.sent_used) (meaning r).staged → n ≡ length (frames (take k (meaning r).staged)) → n ≤ length r.sent - r.held.sent_used
       → called r (flush_staged false)
-      ≡ outcome (moved k n) (counted r.held (r.held.staged_used - n) (r.held.sent_used + n)) r.queue (closed r.held.staged_used 0 n r.staged)
-      (write r.held.sent_used (take n r.staged) r.sent)
+      ≡ outcome (moved k n) (counted r.held (r.held.staged_used - n) (r.held.sent_used + n)) r.queue (closed r.held.staged_used 0 n r.staged) (write r.held.sent_used (take n r.staged) r.sent)
   unfolding S.step S.either S.move R.meaning
-  moved-is k n e f h =
-      let room : length (drop r.held.sent_used r.sent) ≡ length r.sent - r.held.sent_used = length-drop r.held.sent_used r.sent in
-      let fits : fitting (length (meaning r).sent_rest) (meaning r).staged ≡ k = ap (λ x. fitting x (meaning r).staged) room ∙ sym e in
+  moved-is k n count size fits_in =
+      let free : length (drop r.held.sent_used r.sent) ≡ length r.sent - r.held.sent_used = length-drop r.held.sent_used r.sent in
+      let fits : fitting (length (meaning r).sent_rest) (meaning r).staged ≡ k = ap (λ x. fitting x (meaning r).staged) free ∙ sym count in
       sound-step r (flush_staged false) sd
       ∙ ap {B = Outcome} (λ j. record { answer = moved j (length (frames (take j (meaning r).staged))); state = written (move j (meaning r)).world }) fits
-      ∙ ap₂ {C = Outcome} (λ m s. record { answer = moved k m; state = s }) (sym f) (moving k n (sym f) (omega arith))
+      ∙ ap₂ {C = Outcome} (λ m s. record { answer = moved k m; state = s }) (sym size) (moving k n (sym size) (omega (arith, fits_in)))
 
   -- DRAINED
   pub drained-is : called r drain ≡ outcome (gave done) (counted r.held r.held.staged_used 0) r.queue r.staged (write 0 (replicate r.held.sent_used 0) r.sent)

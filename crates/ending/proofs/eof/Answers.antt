@@ -1,11 +1,20 @@
--- What was seen is of this state, so the private function's promise is the call's.
-use Rattle.soundness.specs.Sees as S
-use Rattle.soundness.proofs.Told.{whole}
+-- Each way is one law.
+use Rattle.std.proofs.Common.{sym}
+use Rattle.channel.specs.Answers as A
+use Rattle.channel.specs.Change as G
+use Rattle.channel.specs.Raw as R
+use Rattle.ending.proofs.Ways.{handed, eof_marked, eof_sent}
 use Rattle.ending.proofs.eof.Goals as goal
 
-pub changed-requires : goal.changed-requires
-unfolding S.Gives
-changed-requires c = (c.end_with-done.ensures _ _ _ c.see-seen.ensures).0
+pub returns-in_err-place : goal.returns-in_err-place
+returns-in_err-place c =
+    let refused = rw c.in_err-place.was at c.way_of.ensures in
+    handed _ _ c.from_residual.result _ c.from_residual.ensures.1 refused.eof_is
 
-pub returns : goal.returns
-returns c = whole _ _ _ _ _ _ _ _ _ _ c.end_with-done.ensures c.see-seen.ensures c.changed.ensures
+pub returns-in-Mark : goal.returns-in-Mark
+unfolding A.answer R.zero_record G.with_marks
+returns-in-Mark c = sym (eof_marked (rw (c.in_ok-place.was, c.in-Mark.is) at c.way_of.ensures))
+
+pub returns-in-Send : goal.returns-in-Send
+unfolding A.answer R.zero_record
+returns-in-Send c = rw c.put_eof.ensures (sym (eof_sent (rw (c.in_ok-place.was, c.in-Send.is) at c.way_of.ensures)))

@@ -1,11 +1,11 @@
--- The invariant: the frames from `at` on are whole, and what fits of all is what was passed and what fits of those (Left).
+-- The invariant: the frames behind the run are whole, and what fits of all is the run and what fits of those (Left).
 use Prim.Native.Nat.{◌-◌, ◌≤◌}
 use lib.ListN.{take}
 use Rattle.frames.proofs.Walk.{Left}
 use Rattle.frames.proofs.front_run.Given as goal
 
-abbrev pub invariant-loop-at : goal.invariant-loop-at
-invariant-loop-at l = (l.at ≤ l.used) × (l.at ≤ l.room) × (l.count ≤ l.at) × Left l.used l.room (take l.used l.staged) l.at l.count
+abbrev pub invariant-loop-n : goal.invariant-loop-n
+invariant-loop-n l = (l.run.bytes ≤ l.used) × (l.run.bytes ≤ l.room) × (l.run.frames ≤ l.run.bytes) × Left l.used l.room (take l.used l.staged) l.run.bytes l.run.frames
 
-abbrev pub decreases-loop-at : goal.decreases-loop-at
-decreases-loop-at l = l.used - l.at
+abbrev pub decreases-loop-n : goal.decreases-loop-n
+decreases-loop-n l = l.used - l.run.bytes

@@ -1,20 +1,39 @@
--- `incoming::incoming` meets its contract: what was seen is of the channel that the payload is for, and `take` and `finish` say the rest.
-use Rattle.channel.specs.Raw.{Raw}
-use Rattle.channel.specs.Called.{lent}
-use Rattle.passes.proofs.Rows.{base_of}
-use Rattle.soundness.specs.Sees.{Sees}
-use Rattle.incoming.specs.Takes.{read_for}
+-- By what was read, seen and taken in.
+use Rattle.std.proofs.Common.{sym, ap, ◌∙◌}
+use Rattle.channel.specs.Answers as A
+use Rattle.channel.specs.Called.{outcome}
+use Rattle.reading.specs.Reads as E
+use Rattle.soundness.proofs.Told.{passed_unsound}
+use Rattle.incoming.proofs.Coming.{handed, malformed-is, missed}
 use Rattle.incoming.proofs.incoming.Goals as goal
-use Rattle.incoming.proofs.incoming.Goals.{After-see-seen}
 
-abbrev state : After-see-seen → Raw
-state c = let a = c.args in lent a.t a.queue.now a.staged.now a.sent.now
+pub returns-in_err-test : goal.returns-in_err-test
+returns-in_err-test c = passed_unsound _ _ _ c.from_residual.result c.from_residual.ensures.1 (rw c.in_err-test.was at c.test.ensures.is)
 
-sees : (c : After-see-seen) → let r = state c in Sees r.held r.queue r.staged r.sent (read_for c.read_message-read.result) c.see-seen.result
-sees c = rw c.recipient-n.ensures at c.see-seen.ensures
+pub returns-in_default : goal.returns-in_default
+unfolding A.answer E.read_of
+returns-in_default c =
+    let sound = rw c.in_ok-test.was at c.test.ensures.is in
+    sym (malformed-is _ c.test.ensures.typed sound _ (rw c.in_default.is at c.read_message.ensures))
 
-pub finish-table-requires : goal.finish-table-requires
-finish-table-requires c =
-    let k = c.take-h.ensures in
-    let r = state (goal.at.finish-table-requires c).After-see-seen in
-    record { at_lt_place_count = k.place; base = λ e. base_of r (sees (goal.at.finish-table-requires c).After-see-seen).typed (k.sound r.queue r.sent (sees (goal.at.finish-table-requires c).After-see-seen) e) }
+pub returns-in_err-found : goal.returns-in_err-found
+unfolding E.read_of
+returns-in_err-found c =
+    let m = rw c.recipient.ensures at (rw c.in_err-found.was at c.see.ensures.is) in
+    ap (λ a. outcome a c.args.t.now c.args.queue.now c.args.staged.now c.args.sent.now) (handed c.from_residual-in_err-found.result _ c.from_residual-in_err-found.ensures.1)
+    ∙ missed c.see.ensures.typed _ m _ (rw c.in-Some.is at c.read_message.ensures)
+
+pub returns-in_err-take : goal.returns-in_err-take
+unfolding A.answer E.read_of
+returns-in_err-take c =
+    let s = rw (c.recipient.ensures, c.in_ok-found.was) at c.see.ensures in
+    let k = rw c.in_err-take.was at c.take.ensures in
+    ap (λ a. outcome a c.take.new.t c.take.new.queue c.take.new.staged c.args.sent.now) (handed c.from_residual-in_err-take.result _ c.from_residual-in_err-take.ensures.1)
+    ∙ k _ s _ (rw c.in-Some.is at c.read_message.ensures)
+
+pub returns : goal.returns
+unfolding A.answer E.read_of
+returns c =
+    let s = rw (c.recipient.ensures, c.in_ok-found.was) at c.see.ensures in
+    let k = rw c.in_ok-take.was at c.take.ensures in
+    k _ s _ (rw c.in-Some.is at c.read_message.ensures)

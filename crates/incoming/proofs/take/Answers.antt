@@ -1,24 +1,30 @@
--- `incoming::take` meets its contract: each return cites the law for what was seen and read (`Coming`).
-use Rattle.incoming.specs.Takes as T
-use Rattle.incoming.proofs.Coming as K
+-- Each message is one law.
+use Rattle.channel.specs.Answers as A
+use Rattle.channel.specs.Raw as R
+use Rattle.incoming.specs.Takes.{after}
+use Rattle.incoming.proofs.Taking.{confirms, already, fails, credits, hears_either}
 use Rattle.incoming.proofs.take.Goals as goal
 
-pub take_in-requires : goal.take_in-requires
-unfolding T.read_for
-take_in-requires c =
-    rw (c.in-Reads.is, c.in-At.is) at c.requires
+pub returns-in-OpenConfirmation : goal.returns-in-OpenConfirmation
+unfolding A.to_whom R.zero_record
+returns-in-OpenConfirmation c = rw c.in-OpenConfirmation.is (λ sent s. confirms _ s (after c.confirm.result c.confirm.new.r) c.confirm.ensures)
 
-pub returns-in-Unsound : goal.returns-in-Unsound
-returns-in-Unsound c = rw (c.refuse.ensures, c.in-Unsound.is) (K.state-is c.args.t c.args.staged.now c.args.read)
+pub returns-then-t-found : goal.returns-then-t-found
+unfolding A.to_whom R.zero_record
+returns-then-t-found c = rw c.in-OpenFailure.is (λ sent s. already _ s c.if-t-found.true)
 
-pub returns-in-Unknown : goal.returns-in-Unknown
-returns-in-Unknown c =
-    rw (c.refuse-in-Unknown.ensures, c.unheard.ensures, c.in-Unknown.is) (K.unknown_comes c.args.t c.args.staged.now c.args.read)
+pub returns-else-t-found : goal.returns-else-t-found
+unfolding A.to_whom R.zero_record
+returns-else-t-found c = rw (c.in-OpenFailure.is, c.free.ensures) (λ sent s. fails _ s c.if-t-found.false)
 
-pub returns-in-Malformed : goal.returns-in-Malformed
-returns-in-Malformed c =
-    rw (c.refuse-in-Malformed.ensures, c.in-Malformed.is, c.in-At.is) (K.malformed_comes c.args.t c.args.staged.now _ _ _)
+pub returns-in-WindowAdjust : goal.returns-in-WindowAdjust
+unfolding A.to_whom R.zero_record
+returns-in-WindowAdjust c = rw c.in-WindowAdjust.is (λ sent s. credits _ s (after c.take_credit.result c.take_credit.new.r) c.take_credit.ensures)
 
-pub returns-in-Reads : goal.returns-in-Reads
-returns-in-Reads c =
-    rw (c.in-Reads.is, c.in-At.is) (K.taken_comes c.args.t c.args.staged.now _ _ _ _ _ _ c.take_in.ensures)
+pub take_close-requires : goal.take_close-requires
+unfolding A.to_whom
+take_close-requires c = rw c.in-Close.is at c.requires
+
+pub returns-in-Data : goal.returns-in-Data
+unfolding R.zero_record
+returns-in-Data c = λ sent s. hears_either c.in-Data.is s _ c.hear.ensures

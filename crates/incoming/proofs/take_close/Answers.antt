@@ -1,28 +1,34 @@
--- `incoming::take_close` meets its contract: each return cites the law for what was found (`Closing`).
-use native.Mathlib.Omega.{arith}
+-- Each way out is one law, by what was seen and tested.
+use Rattle.std.proofs.Common.{arith}
+use Rattle.channel.specs.Answers as A
+use Rattle.channel.specs.Raw as R
 use Rattle.lookup.proofs.Limits.{limits}
-use Rattle.incoming.proofs.Coming.{seen_at, here}
-use Rattle.incoming.proofs.Closing as K
+use Rattle.passes.proofs.Rows.{base_of}
+use Rattle.incoming.proofs.Closing.{unconfirmed, full, empty, drops}
 use Rattle.incoming.proofs.take_close.Goals as goal
 
-pub overflow_add-t : goal.overflow_add-t
-overflow_add-t c = let l = limits _ (seen_at c.requires).sound in omega (arith, l.staged_used, l.staged_long)
+pub returns-then-not-record : goal.returns-then-not-record
+unfolding A.to_whom R.zero_record
+returns-then-not-record c = λ sent s. unconfirmed c.args.n s c.if-not-record.true
 
-pub freed-h-requires : goal.freed-h-requires
-freed-h-requires c = let h = (here c.requires).0 in (h.place, h.used)
+pub overflow_sub-rest : goal.overflow_sub-rest
+overflow_sub-rest c = (limits _ c.requires.1.is.sound).staged_used
 
-pub returns-then-t-staged : goal.returns-then-t-staged
-returns-then-t-staged c =
-    let a = c.args in
-    rw (c.freed-h.ensures, c.put_close.ensures)
-    (K.took_97 a.t a.n a.i a.c (here c.requires) c.if-c.true a.staged.now a.waits (seen_at c.requires).waits_is (omega arith))
+pub returns-then-rest-lt9 : goal.returns-then-rest-lt9
+unfolding A.to_whom R.zero_record
+returns-then-rest-lt9 c = λ sent s. full c.args.n s c.if-not-record.false (omega (arith, (limits _ s.is.sound).staged_used))
 
-pub returns-then-c : goal.returns-then-c
-returns-then-c c =
-    let a = c.args in
-    rw c.refuse.ensures (K.full_97 a.t a.n a.i a.c (here c.requires) c.if-c.true a.staged.now (omega arith))
+pub compact-requires : goal.compact-requires
+compact-requires c = rw c.free.ensures (base_of _ c.requires.1.typed c.requires.1.is.sound)
 
-pub returns : goal.returns
-returns c =
-    let a = c.args in
-    rw c.refuse-2.ensures (K.unconfirmed_97 a.t a.n a.i a.c (here c.requires) c.if-c.false a.staged.now)
+pub returns-then-found : goal.returns-then-found
+unfolding A.to_whom R.zero_record
+returns-then-found c =
+    rw (c.compact.ensures.table_after, c.compact.ensures.queue_after, c.put_close.ensures, c.free.ensures)
+    (λ sent s. drops c.args.n s c.if-not-record.false (omega (arith, (limits _ s.is.sound).staged_used)))
+
+pub returns-else-found : goal.returns-else-found
+unfolding A.to_whom R.zero_record
+returns-else-found c =
+    rw (c.put_close.ensures, c.free.ensures)
+    (λ sent s. empty c.args.n s c.if-not-record.false (omega (arith, (limits _ s.is.sound).staged_used)) c.if-found.false)

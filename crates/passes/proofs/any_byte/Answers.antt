@@ -1,18 +1,27 @@
--- `passes::any_byte` meets its contract: what is ahead of place i has a byte just where the whole has one.
-use mathlib.Core.Path.{sym, ◌∙◌}
-use native.Mathlib.Omega.{arith}
+-- What is ahead of place i has a byte just where the whole has one.
+use Rattle.std.proofs.Common.{sym, ap, ◌∙◌, ◌+◌, ◌||◌, arith}
+use Rattle.passes.specs.Flush.{any_left}
+use Rattle.passes.proofs.FlushLaws.{at_used, ahead}
 use Rattle.passes.proofs.Definition.{any_cons, any_none}
 use Rattle.passes.proofs.any_byte.Goals as goal
 
-pub returns-then-has_byte : goal.returns-then-has_byte
-returns-then-has_byte c =
-    let a = c.args in
-    sym (c.loop-i.invariant.1 ∙ any_cons a.n.0 a.entries a.count c.loop-i.i c.loop-i-test.true (omega arith) ∙ rw (sym c.has_byte.ensures ∙ c.if-has_byte.true))
+pub returns-then-e-n : goal.returns-then-e-n
+returns-then-e-n c =
+    let t = c.args.t.now in
+    let n = c.args.n.0 in
+    let i = c.loop-e.e-index in
+    let e = at_used t.entries t.entry_count i (omega arith) in
+    sym (c.loop-e.invariant ∙ any_cons n t.entries t.entry_count i (omega arith) (omega arith) ∙ ap (λ b. b || any_left n (ahead t.entries t.entry_count (i + 1))) (rw e at c.if-e-n.true))
 
-pub loop-i-preserved : goal.loop-i-preserved
-loop-i-preserved c =
-    let a = c.args in
-    (omega arith, c.loop-i.invariant.1 ∙ any_cons a.n.0 a.entries a.count c.loop-i.i c.loop-i-test.true (omega arith) ∙ rw (sym c.has_byte.ensures ∙ c.if-has_byte.false))
+pub loop-e-preserved : goal.loop-e-preserved
+loop-e-preserved c =
+    let t = c.args.t.now in
+    let n = c.args.n.0 in
+    let i = c.loop-e.e-index in
+    let e = at_used t.entries t.entry_count i (omega arith) in
+    c.loop-e.invariant ∙ any_cons n t.entries t.entry_count i (omega arith) (omega arith) ∙ ap (λ b. b || any_left n (ahead t.entries t.entry_count (i + 1))) (rw e at c.if-e-n.false)
 
 pub returns : goal.returns
-returns c = let a = c.args in sym (c.loop-i.invariant.1 ∙ any_none a.n.0 a.entries a.count c.loop-i.i c.loop-i-test.false)
+returns c =
+    let t = c.args.t.now in
+    sym (c.loop-e.invariant ∙ any_none c.args.n.0 t.entries t.entry_count c.loop-e.e-index (omega arith))

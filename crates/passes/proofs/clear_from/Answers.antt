@@ -1,13 +1,11 @@
--- `passes::clear_from` meets its contract: what is left to clear, cleared in the present array, is the whole.
-use mathlib.Core.Path.{◌∙◌}
-use native.Mathlib.Omega.{arith}
-use lib.ListN.{length-set}
-use Rattle.channel.specs.Raw.{zero_entry}
-use Rattle.passes.proofs.KeepLaws.{sets_zero-step}
+-- The part is as long as what is in use from k on.
+use Rattle.std.proofs.Common.{◌-◌, ap, arith}
+use Rattle.lookup.specs.Update.{filed}
+use Rattle.passes.proofs.KeepLaws.{sets_filled}
 use Rattle.passes.proofs.clear_from.Goals as goal
 
-pub loop-j-preserved : goal.loop-j-preserved
-loop-j-preserved c =
-    let p = c.loop-j in
-    let h = c.loop-j-test.true in
-    (omega arith, length-set p.es p.j _ ∙ p.invariant.1, p.invariant.2 ∙ rw c.zero_entry.ensures (sets_zero-step p.es _ p.j zero_entry h))
+pub returns : goal.returns
+returns c =
+    let t = c.args.t.now in
+    ap (λ es. filed t es t.entry_count t.queue_used)
+    (sets_filled c.args.k (t.entry_count - c.args.k) _ t.entries _ (rw c.zero_entry.ensures at c.fill.ensures.after (λ y e. e)) (omega arith))

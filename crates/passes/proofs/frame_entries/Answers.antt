@@ -1,7 +1,5 @@
--- `passes::frame_entries` meets its contract: the record with a positive limit flushes alike (`framed_by`).
-use mathlib.Core.Path.{refl, ap, ◌∙◌}
-use native.Mathlib.Omega.{arith}
-use lib.ListN.{length}
+-- The record with a positive limit flushes alike (`framed_by`).
+use Rattle.std.proofs.Common.{refl, ap, ◌∙◌, ◌+◌, length, arith}
 use Rattle.octets.specs.Buf.{write}
 use Rattle.channel.specs.Wire.{frames}
 use Rattle.channel.specs.Decide.{Flushed}
@@ -13,12 +11,19 @@ frame_pending-requires c =
     let a = c.args in
     let b = c.requires.base in
     let p = c.requires.room in
-    let d = c.positive-d in
-    let e = framed_by a.c a.t a.queue.now b p.1 d.result d.ensures in record { base = record { places = b.places; few = b.few; fits = omega (arith, b.total, b.fits); total = refl }; room = (p.0, rw d.ensures (positive_limit _), omega (arith, ap (λ (f : Flushed). length (frames f.out)) e, p.2)) }
+    let d = c.positive in
+    let e = framed_by a.c.now a.t.now a.queue.now b p.1 d.result d.ensures in
+    record {
+      base = record { places = b.places; few = b.few; fits = omega (arith, b.total, b.fits); total = refl };
+      room = (p.0, rw d.ensures (positive_limit _), omega (arith, ap (λ (f : Flushed). length (frames f.out)) e, p.2));
+    }
 
 pub returns : goal.returns
 returns c =
     let a = c.args in
-    let d = c.positive-d in
-    let e = framed_by a.c a.t a.queue.now c.requires.base c.requires.room.1 d.result d.ensures in
-    c.frame_pending.ensures.dst_after ∙ ap (λ (x : Flushed). write a.start (frames x.out) a.dst.now) e
+    let d = c.positive in
+    let e = framed_by a.c.now a.t.now a.queue.now c.requires.base c.requires.room.1 d.result d.ensures in
+    record {
+      dst_after = c.frame_pending.ensures.dst_after ∙ ap (λ (x : Flushed). write a.start (frames x.out) a.dst.now) e;
+      value = c.frame_pending.ensures.value ∙ ap (λ (x : Flushed). a.start + length (frames x.out)) e;
+    }

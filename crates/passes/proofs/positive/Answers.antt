@@ -1,4 +1,4 @@
--- `passes::positive` meets its contract, by its test.
+-- By its test.
 use borrow.Author.Tests.{eq-eqb, ne_eqb}
 use Rattle.passes.specs.Flush.{positive_of}
 use Rattle.passes.proofs.positive.Goals as goal

@@ -1,12 +1,12 @@
--- `pending::answer` meets its contract, by its test.
+-- By its test.
 use Rattle.channel.specs.Answers as A
 use Rattle.pending.specs.Plan.{result_of}
 use Rattle.pending.proofs.answer.Goals as goal
 
-pub returns-then-s : goal.returns-then-s
-unfolding A.flushed result_of
-returns-then-s c = rw c.if-s.true
+pub returns-then-size : goal.returns-then-size
+unfolding A.flush_is result_of
+returns-then-size c = rw c.if-size.true
 
-pub returns-else-s : goal.returns-else-s
-unfolding A.flushed result_of
-returns-else-s c = rw c.if-s.false
+pub returns-else-size : goal.returns-else-size
+unfolding A.flush_is result_of
+returns-else-size c = rw c.if-size.false

@@ -1,4 +1,4 @@
--- `pending::charged` meets its contract: it stores what `charged_by` says.
+-- It stores what `charged_by` says.
 use mathlib.Core.Path.{refl}
 use Rattle.channel.specs.Change as G
 use Rattle.pending.specs.Plan.{charged_by}

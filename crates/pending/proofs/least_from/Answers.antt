@@ -1,20 +1,20 @@
--- `pending::least_from` meets its contract: what the rest of the entries leaves of the best so far is the whole answer.
-use Prim.Native.Nat.{◌+◌}
-use mathlib.Core.Path.{sym, ◌∙◌, ap}
-use native.Mathlib.Omega.{arith}
-use Rattle.pending.specs.All.{least_from}
-use Rattle.passes.proofs.FlushLaws.{ahead}
+-- What the rest of the entries leaves of the best so far is the whole answer.
+use Rattle.std.proofs.Common.{sym, ap, ◌∙◌, ◌+◌, arith}
+use Rattle.pending.specs.All.{least_from, best_of}
+use Rattle.passes.proofs.FlushLaws.{ahead, at_used}
 use Rattle.pending.proofs.AllLaws.{least_cons, least_none}
 use Rattle.pending.proofs.least_from.Goals as goal
 
-pub loop-i-preserved : goal.loop-i-preserved
-loop-i-preserved c =
-    let a = c.args in (
-      omega arith,
-      c.loop-i.invariant.1
-          ∙ least_cons a.from c.loop-i.best a.entries a.count c.loop-i.i c.loop-i-test.true (omega arith)
-          ∙ ap (λ b. least_from a.from b (ahead a.entries a.count (c.loop-i.i + 1))) (sym c.nearer-best.ensures),
-    )
+pub loop-e-preserved : goal.loop-e-preserved
+loop-e-preserved c =
+    let t = c.args.t.now in
+    let l = c.loop-e in
+    l.invariant
+    ∙ least_cons c.args.from (best_of l.best) t.entries t.entry_count l.e-index (omega arith) (omega arith)
+    ∙ ap (λ b. least_from c.args.from b (ahead t.entries t.entry_count (l.e-index + 1))) (sym (rw (at_used t.entries t.entry_count l.e-index (omega arith)) at c.nearer-best.ensures))
 
 pub returns : goal.returns
-returns c = let a = c.args in sym (c.loop-i.invariant.1 ∙ least_none a.from c.loop-i.best a.entries a.count c.loop-i.i c.loop-i-test.false)
+returns c =
+    let t = c.args.t.now in
+    let l = c.loop-e in
+    sym (l.invariant ∙ least_none c.args.from (best_of l.best) t.entries t.entry_count l.e-index (omega arith))

@@ -11,6 +11,6 @@ pub returns : goal.returns
 returns c =
     let a = c.args in (
       ap₂ (λ x y. x + y) c.mark_size.ensures.0 c.mark_size-2.ensures.0
-          ∙ sym (marks-length (peer_of a.c) (a.all && a.c.pending_eof) (a.all && a.c.pending_close)),
+          ∙ sym (marks-length (peer_of a.c.now) (a.all && a.c.now.pending_eof) (a.all && a.c.now.pending_close)),
       omega (arith, c.mark_size.ensures.1, c.mark_size-2.ensures.1),
     )

@@ -1,9 +1,7 @@
--- `pending::put_marks` meets its contract, by its test.
-use mathlib.Core.Path.{ap, ◌∙◌}
-use native.Mathlib.Omega.{arith}
-use lib.ListN.{length}
+-- By its test.
+use Rattle.std.proofs.Common.{ap, ◌∙◌, length, arith}
 use Rattle.octets.proofs.Laws.{length-write}
-use Rattle.pending.proofs.PlanLaws.{eof-room, eof-put}
+use Rattle.pending.proofs.PlanLaws.{eof-room, eof-put, eof-none, eof-count, no_eof-count}
 use Rattle.pending.proofs.put_marks.Goals as goal
 
 pub put_eof-requires : goal.put_eof-requires
@@ -17,4 +15,15 @@ put_closing-requires c =
 pub returns-then-eof : goal.returns-then-eof
 returns-then-eof c =
     let a = c.args in
-    eof-put a.peer.0 a.at a.eof a.close _ _ _ c.if-eof.true c.put_eof.ensures c.put_closing.ensures
+    record {
+      staged_after = eof-put a.peer.0 a.at a.eof a.close _ _ _ c.if-eof.true c.put_eof.ensures c.put_closing.ensures.staged_after;
+      value = eof-count a.peer.0 a.at _ a.eof a.close c.if-eof.true c.put_closing.ensures.value;
+    }
+
+pub returns-else-eof : goal.returns-else-eof
+returns-else-eof c =
+    let a = c.args in
+    record {
+      staged_after = eof-none a.peer.0 a.at a.eof a.close _ _ c.if-eof.false c.put_closing-else-eof.ensures.staged_after;
+      value = no_eof-count a.peer.0 a.at _ a.eof a.close c.if-eof.false c.put_closing-else-eof.ensures.value;
+    }

@@ -1,27 +1,21 @@
--- `reading::read_data` meets its contract: the string ends the payload, or the form is not there.
-use Prim.Native.Nat.{◌+◌}
-use mathlib.Core.Path.{sym, ◌∙◌}
-use native.Mathlib.Omega.{arith}
+-- The string ends the payload, or the form is not there.
+use Rattle.std.proofs.Common.{arith}
 use Rattle.channel.specs.Answers as A
+use Rattle.channel.specs.Call.{received}
 use Rattle.reading.specs.Reads as E
 use Rattle.reading.proofs.Forms.{int_is, there, not_there, ends_room}
-use Rattle.channel.specs.Call.{received}
 use Rattle.reading.proofs.read_data.Goals as goal
 
+pub returns-in_err-text : goal.returns-in_err-text
+unfolding E.read_of
+returns-in_err-text c = let s = rw c.in_err-text.was at c.last_string.ensures in rw c.from_residual.ensures (not_there _ _ s)
+
 pub read_u32-requires : goal.read_u32-requires
-read_u32-requires c = omega (arith, ends_room c.args.p.now c.args.at (sym c.string_ends.ensures ∙ c.if-string_ends.true))
-
-pub read_u32-requires-then-string_ends : goal.read_u32-requires-then-string_ends
-read_u32-requires-then-string_ends c = ends_room c.args.p.now c.args.at (sym c.string_ends.ensures ∙ c.if-string_ends.true)
-
-pub returns-then-string_ends : goal.returns-then-string_ends
-unfolding E.read_of A.message_of
-returns-then-string_ends c =
-    let p = c.args.p.now in
-    let a = int_is p 1 _ c.read_u32.ensures in
-    let b = int_is p _ _ c.read_u32-then-string_ends.ensures in
-    there _ (sym c.string_ends.ensures ∙ c.if-string_ends.true) (λ i. received (a i) c.args.kind (c.args.at + 4) (b i))
+read_u32-requires c = let s = rw c.in_ok-text.was at c.last_string.ensures in omega (arith, ends_room c.args.p.now c.args.at s.0)
 
 pub returns : goal.returns
-unfolding E.read_of
-returns c = not_there _ _ (sym c.string_ends.ensures ∙ c.if-string_ends.false)
+unfolding E.read_of A.message_of
+returns c =
+    let s = rw c.in_ok-text.was at c.last_string.ensures in
+    let a = int_is c.args.p.now 1 _ c.read_u32.ensures in
+    there _ s.0 (λ i. received (a i) c.args.kind (s.1 i) (s.2 i))

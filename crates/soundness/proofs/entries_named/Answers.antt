@@ -1,58 +1,61 @@
--- Entries from k on, with the sum of those before and whether one of them is the channel's. In the scan for an entry's record, turn 0 is
--- the hinted place and turn j the place j - 1, so the record is the one found from place j - 1 on; a hit at any place is the record,
--- since numbers are distinct.
-use Prim.Native.Nat.{◌-◌}
-use mathlib.Core.Path.{sym, ◌∙◌}
-use mathlib.Core.List.{[]}
-use native.Mathlib.Omega.{arith}
+-- What holds of all the entries, by those from the index on.
+use Rattle.std.proofs.Common.{sym, ap, ◌∙◌, ◌||◌, [], length, take, arith}
+use mathlib.Core.Bool.{or-false}
+use borrow.Author.Tests.{eq-eqb, ne_eqb}
 use Rattle.channel.specs.Raw.{zero_entry}
 use Rattle.channel.specs.Raw as R
-use Rattle.lookup.proofs.Walk.{named_go, named_stop, named_past, confirmed_of, confirmed-none, look-past, sum-next, sum_past, any_past}
+use Rattle.lookup.proofs.Walk.{named_go, named_stop, named_past, confirmed_of, confirmed-none, sum-next, sum_past, any_past}
 use Rattle.soundness.specs.Tested.{places_in}
-use Rattle.soundness.proofs.Places.{found_at, scan_more}
-use Rattle.soundness.proofs.Parts.{entries_unnamed, entry_more, entries-sum}
+use Rattle.soundness.proofs.Parts.{any_is, not_named, named_sum, entry_more}
 use Rattle.soundness.proofs.entries_named.Goals as goal
 
-pub next-preserved : goal.next-preserved
-unfolding R.zero_entry
-next-preserved c =
-    let t = c.args.t in
-    let n = c.next in
-    let i = c.tried-i in
-    let there = found_at t.records t.used i.result _ _ (omega arith) c.requires.places_distinct (sym c.place_has.ensures ∙ c.if-place_has.true) in
-    let named = n.invariant.2 ∙ named_go t.entry_count t.entries [] n.k (places_in t) _ (omega arith) (omega arith) (confirmed_of _ (places_in t) _ there ∙ c.if-r.true) in
-    let sum = sum-next t.entries t.entry_count n.k zero_entry (omega arith) (omega arith) in
-    let waits = entry_more t _ n.k _ n.waits _ (omega arith) (omega arith) c.entry_has-waits.ensures n.invariant.4 in
-    (omega arith, omega arith, named, omega (arith, sum, c.left_of-sum.ensures.0, n.invariant.3), waits)
+pub returns-in_err-place : goal.returns-in_err-place
+returns-in_err-place c =
+    let t = c.args.t.now in
+    let l = c.loop-e in
+    let es = take t.entry_count t.entries in
+    let none = rw c.in_err-place.was at c.place_of.ensures in
+    let unsound = not_named t c.requires.sized (l.invariant.named ∙ named_stop (length es) es [] l.e-index (places_in t) _ (omega arith) (omega arith) (confirmed-none _ (places_in t) none)) in
+    rw c.from_residual.ensures unsound
 
-pub returns-then-place_has : goal.returns-then-place_has
-returns-then-place_has c =
-    let t = c.args.t in
-    let n = c.next in
-    let i = c.tried-i in
-    let there = found_at t.records t.used i.result _ _ (omega arith) c.requires.places_distinct (sym c.place_has.ensures ∙ c.if-place_has.true) in
-    entries_unnamed t _ _ _ c.unnamed.ensures
-    (n.invariant.2 ∙ named_stop t.entry_count t.entries [] n.k (places_in t) _ (omega arith) (omega arith) (confirmed_of _ (places_in t) _ there ∙ c.if-r.false))
+pub returns-then-not-t-place : goal.returns-then-not-t-place
+unfolding R.zero_record
+returns-then-not-t-place c =
+    let t = c.args.t.now in
+    let l = c.loop-e in
+    let es = take t.entry_count t.entries in
+    let held = rw c.in_ok-place.was at c.place_of.ensures in
+    not_named t c.requires.sized (l.invariant.named ∙ named_stop (length es) es [] l.e-index (places_in t) _ (omega arith) (omega arith) (confirmed_of _ (places_in t) _ held.here ∙ c.if-not-t-place.true))
 
-pub loop-j-preserved : goal.loop-j-preserved
-loop-j-preserved c =
-    let t = c.args.t in
-    let l = c.loop-j in
-    let i = c.tried-i in
-    (omega arith, scan_more t.records t.used i.result l.j _ _ (omega arith) i.ensures.1 (sym c.place_has.ensures ∙ c.if-place_has.false) l.invariant.1)
+pub loop-e-preserved : goal.loop-e-preserved
+unfolding R.zero_entry R.zero_record
+loop-e-preserved c =
+    let t = c.args.t.now in
+    let l = c.loop-e in
+    let es = take t.entry_count t.entries in
+    let held = rw c.in_ok-place.was at c.place_of.ensures in
+    let more = sum-next es (length es) l.e-index zero_entry (omega arith) (omega arith) in
+    record {
+      small = omega arith;
+      named = l.invariant.named ∙ named_go (length es) es [] l.e-index (places_in t) _ (omega arith) (omega arith) (confirmed_of _ (places_in t) _ held.here ∙ c.if-not-t-place.false);
+      sum = omega (arith, more, l.invariant.sum);
+      waits = rw (c.eq-waits.ensures, entry_more es c.args.n.0 l.e-index zero_entry l.waits (omega arith) l.invariant.waits);
+    }
 
-pub returns-in-next : goal.returns-in-next
-returns-in-next c =
-    let t = c.args.t in
-    let n = c.next in
-    let l = c.loop-j in
-    let none = l.invariant.1 ∙ look-past t.records t.used (l.j - 1) _ (omega arith) in
-    entries_unnamed t _ _ _ c.unnamed-in-next.ensures
-    (n.invariant.2 ∙ named_stop t.entry_count t.entries [] n.k (places_in t) _ (omega arith) (omega arith) (confirmed-none _ (places_in t) none))
+pub returns-then-sum-t : goal.returns-then-sum-t
+returns-then-sum-t c =
+    let t = c.args.t.now in
+    let l = c.loop-e in
+    let es = take t.entry_count t.entries in
+    let rest = sum_past es (length es) l.e-index (omega arith) in (
+      named_sum t c.requires.sized l.sum _ (l.invariant.named ∙ named_past (length es) es [] l.e-index (places_in t) (omega arith) (omega arith)) (omega (arith, rest, l.invariant.sum)) (eq-eqb _ _ c.if-sum-t.true),
+      sym (any_is t c.requires.sized _ _ (l.invariant.waits ∙ ap (λ b. l.waits || b) (any_past (length es) es [] l.e-index _ (omega arith) (omega arith)) ∙ or-false l.waits)),
+    )
 
-pub returns : goal.returns
-returns c =
-    let t = c.args.t in
-    let n = c.next in
-    let rest = sum_past t.entries t.entry_count n.k (omega arith) in
-    entries-sum t _ n.sum n.k _ (n.invariant.2 ∙ named_past t.entry_count t.entries [] n.k (places_in t) (omega arith) (omega arith)) (omega (arith, rest, n.invariant.3)) n.invariant.4 (any_past t.entry_count t.entries [] n.k _ (omega arith) (omega arith))
+pub returns-else-sum-t : goal.returns-else-sum-t
+returns-else-sum-t c =
+    let t = c.args.t.now in
+    let l = c.loop-e in
+    let es = take t.entry_count t.entries in
+    let rest = sum_past es (length es) l.e-index (omega arith) in
+    named_sum t c.requires.sized l.sum _ (l.invariant.named ∙ named_past (length es) es [] l.e-index (places_in t) (omega arith) (omega arith)) (omega (arith, rest, l.invariant.sum)) (ne_eqb _ _ c.if-sum-t.false)

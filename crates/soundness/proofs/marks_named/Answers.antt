@@ -1,57 +1,37 @@
--- Marks from place i on, and for a marked place the entries from k on: each turn is one law of the walk over the lists.
-use Prim.Native.Nat.{◌+◌}
-use mathlib.Core.Path.{refl, sym, ap, ◌∙◌}
-use mathlib.Core.List.{[]}
-use lib.ListN.{drop}
-use native.Mathlib.Omega.{arith}
-use Rattle.channel.specs.Sound.{all_marked}
-use Rattle.lookup.proofs.Walk.{marked-free, marked-go, marked_stop, marked-past, any_go, any_stop, any_past}
-use Rattle.soundness.specs.Tested.{places_in, entries_in, marks_sound}
+-- Marks from place i on.
+use Rattle.std.proofs.Common.{refl, sym, ap, ◌∙◌, ◌&&◌, get_or, arith}
+use Rattle.channel.specs.Raw.{zero_record}
+use Rattle.channel.specs.Raw as R
+use Rattle.channel.specs.Sound.{is_marked}
+use Rattle.lookup.proofs.Walk.{marked-free, marked-go, marked_stop, marked-past}
+use Rattle.soundness.specs.Tested.{entries_in}
 use Rattle.soundness.specs.Tested as T
 use Rattle.soundness.proofs.marks_named.Goals as goal
+use Rattle.soundness.proofs.marks_named.Goals.{else-place_used-r-via-then-place_used-r+else-not-has_entry, else-place_used-r-via-else-place_used-r}
 
-pub next-init : goal.next-init
+pub loop-i-init : goal.loop-i-init
 unfolding T.marks_sound
-next-init c = (omega arith, refl)
+loop-i-init c = refl
 
-pub next-preserved-then-entry_has : goal.next-preserved-then-entry_has
-next-preserved-then-entry_has c =
-    let t = c.args.t in
-    let n = c.next in
-    let l = c.loop-k in
-    let marked = sym c.place_marked.ensures ∙ c.if-place_marked.true in
-    let there = l.invariant.2 ∙ any_stop t.entry_count t.entries [] l.k _ _ (omega arith) (omega arith) (sym c.entry_has.ensures ∙ c.if-entry_has.true) in (
-      omega arith,
-      n.invariant.1 ∙ marked-go t.records t.used n.i _ (entries_in t) (omega arith) marked there
-          ∙ ap (λ x. all_marked (entries_in t) (drop (x + 1) (places_in t))) (sym l.invariant.0),
-    )
+pub returns-then-not-has_entry : goal.returns-then-not-has_entry
+unfolding R.zero_record
+returns-then-not-has_entry c =
+    let t = c.args.t.now in
+    let l = c.loop-i in
+    sym (l.invariant ∙ marked_stop t.records t.used l.i zero_record (entries_in t) (omega arith) (ap (λ b. b && is_marked (get_or t.records l.i zero_record)) (sym c.place_used.ensures) ∙ c.if-place_used-r.true) (sym c.has_entry.ensures ∙ c.if-not-has_entry.true))
 
-pub loop-k-preserved : goal.loop-k-preserved
-loop-k-preserved c =
-    let t = c.args.t in
-    let l = c.loop-k in (
-      l.invariant.0,
-      omega arith,
-      l.invariant.2 ∙ any_go t.entry_count t.entries [] l.k _ _ (omega arith) (omega arith) (sym c.entry_has.ensures ∙ c.if-entry_has.false),
-    )
-
-pub returns-then-place_marked : goal.returns-then-place_marked
-returns-then-place_marked c =
-    let t = c.args.t in
-    let n = c.next in
-    let l = c.loop-k in
-    let marked = sym c.place_marked.ensures ∙ c.if-place_marked.true in
-    let none = l.invariant.2 ∙ any_past t.entry_count t.entries [] l.k _ (omega arith) (omega arith) in
-    sym (n.invariant.1 ∙ marked_stop t.records t.used n.i _ (entries_in t) (omega arith) marked none)
-
-pub next-preserved : goal.next-preserved
-next-preserved c =
-    let t = c.args.t in
-    let n = c.next in
-    (omega arith, n.invariant.1 ∙ marked-free t.records t.used n.i _ (entries_in t) (omega arith) (sym c.place_marked.ensures ∙ c.if-place_marked.false))
+pub loop-i-preserved : goal.loop-i-preserved
+unfolding R.zero_record
+loop-i-preserved c =
+    let t = c.args.t.now in
+    let l = c.loop-i in
+    elim c.else-place_used-r.branch [
+      | else-place_used-r-via-then-place_used-r+else-not-has_entry w ↦ l.invariant ∙ marked-go t.records t.used l.i zero_record (entries_in t) (omega arith) (ap (λ b. b && is_marked (get_or t.records l.i zero_record)) (sym c.place_used.ensures) ∙ w.if-place_used-r.true) (sym w.has_entry.ensures ∙ w.if-not-has_entry.false)
+      | else-place_used-r-via-else-place_used-r w ↦ l.invariant ∙ marked-free t.records t.used l.i zero_record (entries_in t) (omega arith) (ap (λ b. b && is_marked (get_or t.records l.i zero_record)) (sym c.place_used.ensures) ∙ w.if-place_used-r.false)
+    ]
 
 pub returns : goal.returns
 returns c =
-    let t = c.args.t in
-    let n = c.next in
-    sym (n.invariant.1 ∙ marked-past t.records t.used n.i (entries_in t) (omega arith))
+    let t = c.args.t.now in
+    let l = c.loop-i in
+    sym (l.invariant ∙ marked-past t.records t.used l.i (entries_in t) (omega arith))

@@ -1,33 +1,30 @@
 -- The used part is whole frames if it is from `at` on: each turn is one law of the walk over frames.
-use Prim.Native.Nat.{◌<◌}
 use mathlib.Core.Path.{sym, ap, ◌∙◌}
 use lib.ListN.{take, drop, drop_of_length-le}
 use lib.Seq.{length-take-le, drop-drop}
 use native.Mathlib.Omega.{arith}
 use Rattle.channel.specs.Sound.{whole_frames}
-use Rattle.frames.specs.Frame.{whole_at}
 use Rattle.frames.proofs.Walk.{length-used, wholes_more, wholes_none, wholes_end}
 use Rattle.soundness.proofs.whole_frames.Goals as goal
 
-pub returns-then-n-eq0 : goal.returns-then-n-eq0
-returns-then-n-eq0 c =
+pub returns-in_default : goal.returns-in_default
+returns-in_default c =
     let a = c.args in
     let l = c.loop-at in
     let e = length-used a.staged.now a.used l.at (omega arith) in
-    sym (l.invariant.1 ∙ wholes_none a.used (drop l.at (take a.used a.staged.now)) (omega arith) (omega arith) (sym c.frame_at-n.ensures.value ∙ c.if-n-eq0.true))
+    sym (l.invariant.1 ∙ wholes_none a.used (drop l.at (take a.used a.staged.now)) (omega arith) (omega arith) c.in_default.ensures)
 
 pub loop-at-preserved : goal.loop-at-preserved
 loop-at-preserved c =
     let a = c.args in
     let l = c.loop-at in
-    let f = c.frame_at-n in
+    let f = c.in-Some.ensures in
     let bs = take a.used a.staged.now in
-    let e = length-used a.staged.now a.used l.at (omega arith) in
-    let more : 0 < whole_at (drop l.at bs) = omega (arith, f.ensures.value) in (
+    let e = length-used a.staged.now a.used l.at (omega arith) in (
       omega arith,
-      l.invariant.1 ∙ wholes_more a.used (drop l.at bs) (omega arith) more
-          ∙ ap (λ k. whole_frames a.used (drop k (drop l.at bs))) (sym f.ensures.value)
-          ∙ ap (whole_frames a.used) (drop-drop f.result l.at bs),
+      l.invariant.1 ∙ wholes_more a.used (drop l.at bs) (omega arith) (omega arith)
+          ∙ ap (λ k. whole_frames a.used (drop k (drop l.at bs))) (sym f.0)
+          ∙ ap (whole_frames a.used) (drop-drop c.in-Some.n l.at bs),
     )
 
 pub returns : goal.returns

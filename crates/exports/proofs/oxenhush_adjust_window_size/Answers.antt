@@ -1,6 +1,0 @@
--- `exports::oxenhush_adjust_window_size` meets its contract: the law `answered`, over what the call below promises.
-use Rattle.exports.proofs.Told.{answered}
-use Rattle.exports.proofs.oxenhush_adjust_window_size.Goals as goal
-
-pub returns : goal.returns
-returns c = answered c.adjust_window_size-charged.ensures c.of_charged.ensures

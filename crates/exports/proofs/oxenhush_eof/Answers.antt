@@ -1,6 +1,0 @@
--- `exports::oxenhush_eof` meets its contract: the law `answered`, over what the call below promises.
-use Rattle.exports.proofs.Told.{answered}
-use Rattle.exports.proofs.oxenhush_eof.Goals as goal
-
-pub returns : goal.returns
-returns c = answered c.eof-ended.ensures c.of_acted.ensures
