@@ -36,7 +36,7 @@ pub struct Record {
     pub pending_close: bool,
 }
 
-// Which data: plain, or extended with a code.
+// Which data: plain, or extended with a code. An `Option` of a code by its shape: docs/RULES.md names the two kinds.
 #[derive(Clone, Copy)]
 pub enum Kind {
     Plain,
@@ -61,8 +61,8 @@ pub struct Entry {
     pub left: u32,
 }
 
-// The whole table: bit i of `used` says whether place i holds a record. The counts are those of the three lent buffers. Arrays with a word or
-// a count beside them, and not maps and vectors: the table has a fixed size, no heap, and the layout that C passes.
+// The whole table: bit i of `used` says whether place i holds a record. The counts are those of the three lent buffers. Arrays with a word
+// or a count beside them, and not maps and vectors: the table has a fixed size, no heap, and the layout that C passes.
 #[repr(C)]
 #[derive(Clone, Copy)]
 pub struct Table {
@@ -207,7 +207,8 @@ impl From<Refusal> for Stopped {
     }
 }
 
-// What a staged flush did: nothing during rekey, or the frames and bytes moved.
+// What a staged flush did: nothing during rekey, or the frames and bytes moved. As an `Option` it would not say what `None` is: it may well
+// move nothing without a rekey.
 #[derive(Clone, Copy)]
 pub enum Moved {
     Held,
@@ -247,29 +248,35 @@ pub fn zero_entry() -> Entry
 }
 
 // A kind as an entry holds it.
-pub fn stored(kind: Kind) -> StoredKind
-    ensures { result ≡ S.stored kind }
-{
-    match kind {
-        Kind::Plain => StoredKind {
-            extended: false,
-            code: 0,
-        },
-        Kind::Extended(code) => StoredKind {
-            extended: true,
-            code,
-        },
+impl From<Kind> for StoredKind {
+    ghost from_gives = { λ k s. s ≡ S.stored k };
+
+    #[tactic(auto, unfolding(crate::specs::State::stored))]
+    fn from(kind: Kind) -> StoredKind {
+        match kind {
+            Kind::Plain => StoredKind {
+                extended: false,
+                code: 0,
+            },
+            Kind::Extended(code) => StoredKind {
+                extended: true,
+                code,
+            },
+        }
     }
 }
 
 // The kind that an entry's data goes out under.
-pub fn kind_of(s: StoredKind) -> Kind
-    ensures { result ≡ S.kind_of s }
-{
-    if s.extended {
-        Kind::Extended(s.code)
-    } else {
-        Kind::Plain
+impl From<StoredKind> for Kind {
+    ghost from_gives = { λ s k. k ≡ S.kind_of s };
+
+    #[tactic(auto, unfolding(crate::specs::State::kind_of))]
+    fn from(s: StoredKind) -> Kind {
+        if s.extended {
+            Kind::Extended(s.code)
+        } else {
+            Kind::Plain
+        }
     }
 }
 

@@ -51,23 +51,28 @@ fn copy(t: &Table, rounds: u32) -> u64 {
     (0..rounds).fold(0u64, |sum, i| sum.wrapping_add(window_in_copy(t, i)))
 }
 
-// The processor time used so far, in microseconds; 0 where the clock fails.
-fn micros(rt: &impl CpuClock) -> u64 {
-    rt.process_cpu_time().map_or(
-        0,
-        |used| u64::try_from(used.as_micros()).unwrap_or(u64::MAX),
-    )
+// The processor time used so far, in microseconds; none where the clock fails.
+fn micros(rt: &impl CpuClock) -> Option<u64> {
+    let used = rt.process_cpu_time().ok()?;
+    u64::try_from(used.as_micros()).ok()
 }
 
-// More microseconds than any pass takes.
-const NEVER: u64 = 1000000000;
+// The microseconds from one time to a later one; none where either is none.
+fn between(start: Option<u64>, end: Option<u64>) -> Option<u64> {
+    end?.checked_sub(start?)
+}
 
-// What the passes over one table came to: the fewest microseconds of a pass of each kind, how often the table was sound, and the windows
-// that were read from its copies.
+// The least pass, with one more to choose from, which counts only where the clock gave its time.
+fn least(so_far: Option<u64>, pass: Option<u64>) -> Option<u64> {
+    pass.map_or(so_far, |n| Some(so_far.map_or(n, |least| least.min(n))))
+}
+
+// What the passes over one table came to: the fewest microseconds of a pass of each kind, none before the first, how often the table was
+// sound, and the windows that were read from its copies.
 #[derive(Drop)]
 struct Measured {
-    sound: u64,
-    copy: u64,
+    sound: Option<u64>,
+    copy: Option<u64>,
     yes: u64,
     read: u64,
 }
@@ -76,8 +81,8 @@ impl Measured {
     // Several passes, of each kind in turn.
     fn of(rt: &impl CpuClock, t: &Table, rounds: u32, passes: u32) -> Measured {
         let mut m = Measured {
-            sound: NEVER,
-            copy: NEVER,
+            sound: None,
+            copy: None,
             yes: 0,
             read: 0,
         };
@@ -91,11 +96,11 @@ impl Measured {
     fn pass(&mut self, rt: &impl CpuClock, t: &Table, rounds: u32) {
         let start = micros(rt);
         self.yes = self.yes.wrapping_add(ask(t, rounds));
-        let between = micros(rt);
+        let middle = micros(rt);
         self.read = self.read.wrapping_add(copy(t, rounds));
         let end = micros(rt);
-        self.sound = self.sound.min(between.wrapping_sub(start));
-        self.copy = self.copy.min(end.wrapping_sub(between));
+        self.sound = least(self.sound, between(start, middle));
+        self.copy = least(self.copy, between(middle, end));
     }
 }
 
@@ -109,12 +114,19 @@ impl fmt::Display for Hundredths {
     }
 }
 
-// Of 100,000 rounds, the nanoseconds of one: 100 microseconds of the whole are a nanosecond of each.
+// Of 100,000 rounds, the nanoseconds of one: 100 microseconds of the whole are a nanosecond of each. No times where the clock failed, and
+// no ratio where a copy took none.
 fn show_times(rt: &impl Print, m: &Measured) -> io::Result<()> {
-    let (sound, copy) = (Hundredths(m.sound), Hundredths(m.copy));
-    print!(rt; ", {sound} ns, a copy {copy} ns, ratio ")?;
-    if m.sound < NEVER && m.copy > 0 {
-        print!(rt; "{}", Hundredths(m.sound * 100 / m.copy))?;
+    let (Some(sound), Some(copy)) = (m.sound, m.copy) else {
+        return print!(rt; ", no clock");
+    };
+    print!(rt;
+        ", {} ns, a copy {} ns, ratio ",
+        Hundredths(sound),
+        Hundredths(copy)
+    )?;
+    if let Some(ratio) = sound.checked_mul(100).and_then(|n| n.checked_div(copy)) {
+        print!(rt; "{}", Hundredths(ratio))?;
     }
     Ok(())
 }

@@ -32,7 +32,8 @@ fn overhead(kind: Kind) -> usize
     }
 }
 
-// The bytes that n bytes of data take in packets of the limit, whatever they are and whoever they go to.
+// The bytes that n bytes of data take in packets of the limit, whatever they are and whoever they go to. That a limit is not 0 stands in
+// each contract that needs it: a record holds any number, and a call refuses the 0.
 pub fn size_of_run(kind: Kind, limit: u32, n: u32) -> u64
     requires { 0 < limit }
     ensures { (peer : ℕ) (bs : List ℕ) → length bs ≡ n → result ≡ length (frames (packets kind peer limit bs)) }
@@ -99,7 +100,8 @@ fn put_data_head(dst: &mut [u8], at: usize, kind: Kind, peer: PeerNumber, n: u32
     }
 }
 
-// One data packet, 13 bytes over the data or 17. The buffer's limit keeps the lengths within 32 bits.
+// One data packet, 13 bytes over the data or 17. The buffer's limit keeps the lengths within 32 bits; it stands in each contract that needs
+// it, since a buffer is a caller's slice, of any length, and has no type of its own.
 #[tactic(auto, using(crate::proofs::Packets::data_by))]
 fn put_packet(dst: &mut [u8], at: usize, kind: Kind, peer: PeerNumber, src: &[u8])
     requires { (at + (length src.now + over kind) ≤ length dst.old) × (length dst.old ≤ most_bytes) }
@@ -134,7 +136,8 @@ pub fn put_run(
     pos
 }
 
-// The bytes of the frame at `at`, where it is whole within the used part and not empty.
+// The bytes of the frame at `at`, where it is whole within the used part and not empty. The used count goes with the buffer, which is as
+// long as the caller lent it.
 pub fn frame_at(staged: &[u8], used: usize, at: usize) -> Option<usize>
     requires { (at ≤ used) × (used ≤ length staged.now) }
     ensures { MatchOption result (whole_at (drop at (take used staged.now)) ≡ 0)

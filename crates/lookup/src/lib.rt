@@ -9,6 +9,9 @@ ghost use Rattle.lookup.specs.Update.{place_freed};
 
 use channel::{ChannelId, Table, zero_record};
 
+// A place is a number below 32, here and above, and for some functions one that is used or free, which each contract says: a type for it
+// would be taken apart at each use of an array, and C passes any word of used marks.
+
 // Place i is used.
 pub fn place_used(t: &Table, i: usize) -> bool
     requires { i < place_count }
@@ -22,7 +25,7 @@ pub fn place_has(t: &Table, i: usize, n: ChannelId) -> bool
     requires { i < place_count }
     ensures { result ≡ bit t.now.used i && eqb (number_of (record_at t.now i)) n.0 }
 {
-    place_used(t, i) & (t.records[i].sender_channel.0 == n.0)
+    place_used(t, i) & (t.records[i].sender_channel == n)
 }
 
 // The word with the clear bit i set.

@@ -54,7 +54,8 @@ fn fresh_record(n: ChannelId, window_size: u32, maxpacket: u32) -> Record
     }
 }
 
-// A record that is opened for the peer: confirmed at once, with both ends' windows and limits.
+// A record that is opened for the peer: confirmed at once, with both ends' windows and limits. They are the arguments of the call, as
+// README.md lists it, and of its export.
 #[tactic(auto, unfolding(channel::specs::Change::fresh, channel::specs::Change::confirm))]
 fn peer_record(
     n: ChannelId,

@@ -1,5 +1,6 @@
-// Bytes in a lent buffer: every store into a lent buffer is one of these. What a contract's `write` leaves is plain from
-// proofs/Laws.antt, write_eq: the bytes before, those written, the bytes after.
+// Bytes in a lent buffer: every store into a lent buffer is one of these. What a contract's `write` leaves is plain from proofs/Laws.antt,
+// write_eq: the bytes before, those written, the bytes after. A buffer and a place in it are two arguments, here and above: a slice from
+// the place on would hide from a contract what stands before it.
 
 #![tactic(auto)]
 

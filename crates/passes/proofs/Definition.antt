@@ -1,7 +1,7 @@
 -- What the three passes do is what the definition says of a flush.
 -- Assumes nothing.
 use mathlib.Core.Path.{◌≡◌, refl, ap, sym, ◌∙◌}
-use mathlib.Core.Bool.{true, false, ◌&&◌, ◌||◌}
+use mathlib.Core.Bool.{true, false, ◌&&◌}
 use mathlib.Core.List.{List, [], ◌∷◌}
 use Prim.Native.Nat.{ℕ, zero, suc, ◌+◌, ◌-◌, ◌≤◌, ◌<◌}
 use native.Mathlib.Nat.{add-zero, zero-add, sub-zero, min-eq_left}
@@ -27,9 +27,9 @@ use Rattle.channel.specs.Sound.{sum_left}
 use Rattle.channel.specs.Sound as C
 use Rattle.channel.proofs.Entries.{flushed_skip, flushed-whole, flushed-part, without_hit, without_miss}
 use Rattle.passes.specs.Keep.{cut, keeps}
-use Rattle.passes.specs.Flush.{taken_by, stops_by, size_by, adds, sizes, size_of, has_byte_by, any_left, with_limit}
-use Rattle.passes.proofs.KeepLaws.{at, keeps-nil, keeps_goes, keeps_stays}
-use Rattle.passes.proofs.FlushLaws.{ahead, ahead-cons, flushed-nil, taken-left, out-go, out_stop, stop_is, stop_less, stop_takes, sizes-go, sizes_stop}
+use Rattle.passes.specs.Flush.{taken_by, stops_by, size_by, adds, sizes, size_of, any_left, with_limit}
+use Rattle.passes.proofs.KeepLaws.{keeps-nil, keeps_goes, keeps_stays}
+use Rattle.passes.proofs.FlushLaws.{flushed-nil, taken-left, out-go, out_stop, stop_is, stop_less, stop_takes, sizes-go, sizes_stop}
 
 -- ---- what stays
 
@@ -182,14 +182,3 @@ flushed-limit c l w (e ∷ es) h =
     flushed-whole c w e es t u ∙ rw (z, packets-nil (kind_of e.kind) (peer_of c) c.recipient_maximum_packet_size, sub-zero w) in
     a ∙ ap (sending [] 0) (flushed-limit c l w es o.1) ∙ sym b)
     (λ t. flushed_skip (with_limit c l) w e es t ∙ rw (flushed-limit c l w es o.1) (sym (flushed_skip c w e es t)))
-
-pub any_none : (n : ℕ) (es : List E.Entry) (count i : ℕ) → count ≤ i → any_left n (ahead es count i) ≡ false
-unfolding any_left
-any_none n es count i h =
-    let k : count - i ≡ 0 = omega arith in
-    rw k
-
-pub any_cons : (n : ℕ) (es : List E.Entry) (count i : ℕ) → i < count → count ≤ length es
-    → any_left n (ahead es count i) ≡ has_byte_by n (at es i).number.0 (at es i).left || any_left n (ahead es count (i + 1))
-unfolding any_left
-any_cons n es count i h l = ap (any_left n) (ahead-cons es count i h l)

@@ -17,7 +17,7 @@ ghost use Rattle.passes.specs.Keep.{Base, goes_by, cut_by, keeps, queue_with, ta
 ghost use Rattle.passes.specs.Flush.{taken_by, stops_by, sizes, any_left, stuck_by, positive_of};
 ghost use Rattle.passes.specs.Pass.{entries_in, flushed_in, PlannedBy};
 
-use channel::{ChannelId, Entry, Record, Refusal, StoredKind, Table, kind_of, zero_entry};
+use channel::{ChannelId, Entry, Record, Refusal, StoredKind, Table, zero_entry};
 use frames::{put_run, size_of_run};
 use octets::{move_down, put_zeros};
 
@@ -29,8 +29,10 @@ pub struct Size {
     pub all: bool,
 }
 
-// `Base`, in the contracts below, says that the entries in use lie in the queue. It is no invariant of a struct, since the table and the
-// queue come apart, as C lends them.
+// `Base`, in the contracts below, says that the entries in use lie in the queue, and other clauses that the array has its length and no
+// more are counted. They are no invariant of a struct, since the table and the queue come apart, as C lends them, and C passes any counts.
+// The channel, whether it still flushes and what its window still holds are arguments, as the loops have them: a struct would be made for
+// each entry.
 
 // THE COMPACTION
 
@@ -45,14 +47,14 @@ fn left_of(e: &Entry) -> usize
 fn goes(e: &Entry, n: ChannelId, live: bool, w: usize) -> bool
     ensures { result ≡ goes_by n.0 live w e.now.number.0 e.now.left }
 {
-    live & (e.number.0 == n.0) & (e.left as usize <= w)
+    live & (e.number == n) & (e.left as usize <= w)
 }
 
 // The bytes that leave an entry that stays.
 fn cut_of(e: &Entry, n: ChannelId, live: bool, w: usize) -> usize
     ensures { result ≡ cut_by n.0 live w e.now.number.0 }
 {
-    if live & (e.number.0 == n.0) { w } else { 0 }
+    if live & (e.number == n) { w } else { 0 }
 }
 
 // The used entries from place k on are zero.
@@ -101,7 +103,7 @@ pub fn compact(t: &mut Table, queue: &mut [u8], n: ChannelId, window: usize)
         move_down(queue, to, off + gone - to, keep);
         e.left = keep as u32;
         t.entries[k] = e;
-        live = live & (e.number.0 != n.0);
+        live = live & (e.number != n);
         k += 1;
         to += keep;
         off += left;
@@ -116,7 +118,7 @@ fn taken(e: &Entry, n: ChannelId, w: usize) -> usize
     ensures value { result ≡ taken_by n.0 w e.now.number.0 e.now.left }
     ensures upper_bound { result < 4294967296 }
 {
-    if e.number.0 == n.0 {
+    if e.number == n {
         (e.left as usize).min(w)
     } else {
         0
@@ -127,10 +129,11 @@ fn taken(e: &Entry, n: ChannelId, w: usize) -> usize
 fn stops(e: &Entry, n: ChannelId, w: usize) -> bool
     ensures { result ≡ stops_by n.0 w e.now.number.0 e.now.left }
 {
-    (e.number.0 == n.0) & (w < e.left as usize)
+    (e.number == n) & (w < e.left as usize)
 }
 
-// The frames of the channel's entries, as far as its window goes. The index after the last.
+// The frames of the channel's entries, as far as its window goes. The index after the last. A buffer and a place in it are two parameters
+// of every store, here as in `frames`: what the buffer holds ahead of the place stays.
 fn frame_pending(t: &Table, queue: &[u8], dst: &mut [u8], start: usize, c: &Record) -> usize
     requires base { Base t.now.entries t.now.entry_count queue.now (sum_left t.now.entry_count t.now.entries) }
     requires room { (length dst.old ≤ most_bytes) × (0 < c.now.recipient_maximum_packet_size) × (start + length (frames (flushed c.now c.now.recipient_window_size (entries_of t.now.entry_count t.now.entries queue.now)).out) ≤ length dst.old) }
@@ -145,7 +148,7 @@ fn frame_pending(t: &Table, queue: &[u8], dst: &mut [u8], start: usize, c: &Reco
         pos = put_run(
             dst,
             pos,
-            kind_of(e.kind),
+            e.kind.into(),
             c.recipient_channel,
             c.recipient_maximum_packet_size,
             &queue[off..off + m],
@@ -166,7 +169,7 @@ fn run_size(kind: StoredKind, limit: u32, m: usize) -> usize
     requires { (0 < limit) × (m < 4294967296) }
     ensures { result ≡ run_size (kind_of kind) limit m }
 {
-    size_of_run(kind_of(kind), limit, m as u32) as usize
+    size_of_run(kind.into(), limit, m as u32) as usize
 }
 
 // What a flush of the channel would frame.
@@ -204,12 +207,9 @@ fn any_byte(t: &Table, n: ChannelId) -> bool
     requires { (length t.now.entries ≡ most_entries) × (t.now.entry_count ≤ most_entries) }
     ensures { result ≡ any_left n.0 (take t.now.entry_count t.now.entries) }
 {
-    for e in &t.entries[..t.entry_count] {
-        if (e.number.0 == n.0) & (0 < e.left) {
-            return true;
-        }
-    }
-    false
+    t.entries[..t.entry_count]
+        .iter()
+        .any(|e| (e.number == n) & (0 < e.left))
 }
 
 // The limit is 0, and a byte is pending.
@@ -228,11 +228,10 @@ fn stuck(t: &Table, c: &Record) -> bool
 fn positive(c: &Record) -> Record
     ensures { result ≡ positive_of c.now }
 {
-    let mut d = *c;
-    if c.recipient_maximum_packet_size == 0 {
-        d.recipient_maximum_packet_size = 1;
+    Record {
+        recipient_maximum_packet_size: c.recipient_maximum_packet_size.max(1),
+        ..*c
     }
-    d
 }
 
 // The sizes of the channel's flush, which is refused where its limit is 0 and a byte is pending.

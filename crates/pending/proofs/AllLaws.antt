@@ -40,6 +40,7 @@ use Rattle.lookup.proofs.Branch.{sound-step, same-is, unsound}
 use Rattle.channel.proofs.Promises.{sound_stays}
 use Rattle.std.specs.Prelude as Prelude
 use Rattle.std.proofs.Common.{IsErrAnd, Ok, Err}
+use Rattle.std.specs.Result.{MatchResult, is_ok}
 use Rattle.channel.specs.declared.ChannelId.{ChannelId}
 use Rattle.channel.specs.declared.Refusal.{Refusal}
 use Rattle.channel.specs.declared.Stopped.{Stopped}
@@ -521,7 +522,7 @@ module _ (r : Raw) (ty : Typed r) (sd : is_sound r ≡ true) (route : Route) (fr
             }
 
 -- what a flush gives is no refusal
-pub flushed-gives : (a : ChannelFlushResult) → is_refusal (A.flush_is a) ≡ false
+flushed-gives : (a : ChannelFlushResult) → is_refusal (A.flush_is a) ≡ false
 unfolding A.flush_is P.is_refusal
 flushed-gives (Flush.Incomplete k) = refl
 flushed-gives (Flush.Complete m) = refl
@@ -538,10 +539,25 @@ all_unsound r route (Ok u) e s = absurd e
 all_unsound r route (Err j) e s = rw (e ∙ ap Stop.Refused s.1) (sym (unsound r (flush_all route) s.0))
 
 -- a refusal, as the flush of all answers it
-pub stopped_is : (n : ChannelId) (k : Refusal) → A.all_flushed (Err (Stop.At n k)) ≡ stop_at n.0 (A.refusal k)
+stopped_is : (n : ChannelId) (k : Refusal) → A.all_flushed (Err (Stop.At n k)) ≡ stop_at n.0 (A.refusal k)
 unfolding A.all_flushed A.refusal P.stop_at
 stopped_is n k = refl
 
-pub refusal_is : (k : Refusal) → is_refusal (A.refusal k) ≡ true
+refusal_is : (k : Refusal) → is_refusal (A.refusal k) ≡ true
 unfolding A.refusal P.is_refusal
 refusal_is k = refl
+
+-- a refusal is handed on with the channel's number
+pub handed_on : (n : ChannelId) (d : Stopped) (P : Refusal → Type 0) (x : Prelude.Result ChannelFlushResult Refusal) (y : Prelude.Result (Unit {0}) Stopped)
+    → MatchResult x (λ v. ◌≡◌ {A = Prelude.Result ChannelFlushResult Stopped} (Err d) (Ok v)) P → false ≡ is_ok x → IsErrAnd y (λ e. e ≡ d)
+    → ((k : Refusal) → P k → d ≡ Stop.At n k) → (A.all_flushed y ≡ stop_at n.0 (A.flushed x)) × (is_refusal (A.flushed x) ≡ true)
+unfolding A.answer
+handed_on n d q (Ok v) y m o e f = absurd (true≢false (sym o))
+handed_on n d q (Err k) (Ok u) m o e f = absurd e
+handed_on n d q (Err k) (Err s) m o e f = rw (e, f k m) (stopped_is n k, refusal_is k)
+
+-- and what is no refusal is none
+pub kept_on : (x : Prelude.Result ChannelFlushResult Refusal) → true ≡ is_ok x → is_refusal (A.flushed x) ≡ false
+unfolding A.answer
+kept_on (Ok v) o = flushed-gives v
+kept_on (Err k) o = absurd (true≢false o)

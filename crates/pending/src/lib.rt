@@ -87,11 +87,12 @@ fn charged(c: &Record, size: &Size) -> Record
     requires { size.now.wrote ≤ c.now.recipient_window_size }
     ensures { result ≡ charged_by c.now (c.now.recipient_window_size - size.now.wrote) size.now.all }
 {
-    let mut d = *c;
-    d.recipient_window_size = c.recipient_window_size - size.wrote as u32;
-    d.pending_eof = c.pending_eof & !size.all;
-    d.pending_close = c.pending_close & !size.all;
-    d
+    Record {
+        recipient_window_size: c.recipient_window_size - size.wrote as u32,
+        pending_eof: c.pending_eof & !size.all,
+        pending_close: c.pending_close & !size.all,
+        ..*c
+    }
 }
 
 // What stands at the record's place after a flush: nothing, and the place is free, where CLOSE is handed over.
@@ -168,6 +169,9 @@ struct Form {
     writer: bool,
     rekey: bool,
 }
+
+// The table, the queue, staged, `out`, `kept` and the form go through the five functions below as parameters: a struct of the references
+// was tried, and was no plainer, since its clauses must say besides that the references stay the caller's.
 
 // What the types say of a state, for the proofs.
 fn typed_lent(t: &Table, queue: &[u8], staged: &[u8], out: &[u8], kept: &[u8], form: Form)
@@ -289,10 +293,7 @@ fn nearer(n: ChannelId, from: u64, best: Option<ChannelId>) -> Option<ChannelId>
     if (n.0 as u64) < from {
         return best;
     }
-    match best {
-        Some(b) => if n < b { Some(n) } else { best },
-        None => Some(n),
-    }
+    Some(best.map_or(n, |b| b.min(n)))
 }
 
 // The lowest number from `from` on that has an entry.
@@ -354,9 +355,7 @@ fn flush_all(
         let Some(n) = least_from(t, from) else {
             return Ok(());
         };
-        if let Err(why) = flush_next(t, queue, staged, out, kept, form, n) {
-            return Err(Stopped::At(n, why));
-        }
+        flush_next(t, queue, staged, out, kept, form, n).map_err(|why| Stopped::At(n, why))?;
         from = past(n);
     }
 }

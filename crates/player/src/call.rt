@@ -1,5 +1,6 @@
 // The calls of a script, with their fields.
 ghost use Rattle.std.specs.Prelude.{IfSome};
+ghost use Rattle.player.specs.Buffers.{Decodes};
 ghost use Rattle.player.specs.Left.{NoLonger, Shorter};
 
 use crate::fields::Fields;
@@ -117,6 +118,8 @@ pub enum Buffer {
 // The error is the byte that names none.
 impl TryFrom<u8> for Buffer {
     type Error = u8;
+
+    ghost try_from_gives = { Decodes };
 
     fn try_from(byte: u8) -> Result<Buffer, u8> {
         match byte {

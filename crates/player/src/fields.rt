@@ -1,7 +1,7 @@
 // The fields of a script, read one after the other.
 ghost use Rattle.std.specs.Prelude.{length, IfSome};
 ghost use Rattle.std.specs.Iterator.{at_most};
-ghost use Rattle.player.specs.Left.{NoLonger, Shorter};
+ghost use Rattle.player.specs.Left.{NoLonger, Shorter, Starts, switch_byte};
 
 // What is left of a script. Each method takes one field off its front, or gives none where the rest is too short or no such field.
 #[derive(Drop)]
@@ -12,6 +12,7 @@ impl<'a> Fields<'a> {
     pub fn byte(&mut self) -> Option<u8>
         ensures within { NoLonger self.old self.new }
         ensures taken { IfSome result (λ x. Shorter self.old self.new) }
+        ensures first { IfSome result (λ byte. Starts self.old byte) }
     {
         let (first, rest) = self.0.split_first()?;
         self.0 = rest;
@@ -30,7 +31,8 @@ impl<'a> Fields<'a> {
 
     // A switch: 0 is off, 1 is on.
     pub fn switch(&mut self) -> Option<bool>
-        ensures { NoLonger self.old self.new }
+        ensures within { NoLonger self.old self.new }
+        ensures first { IfSome result (λ on. Starts self.old (switch_byte on)) }
     {
         match self.byte()? {
             0 => Some(false),

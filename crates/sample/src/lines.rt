@@ -1,7 +1,8 @@
 // The lines that the Rust draft can show too. It has a queue for each channel and no places, so records and entries go by number.
-use channel::{Table, kind_of};
+use channel::Table;
+use lookup::place_used;
 use player::{Lab, Strings};
-use shown::{Fields, Hex, KindFields, is_used};
+use shown::{Fields, Hex, KindFields};
 use std::alloc::{AllocError, Global};
 use std::collections::BTreeSet;
 use std::io;
@@ -11,7 +12,7 @@ use std::io::Write;
 fn numbers(alloc: Global, t: &Table) -> Result<BTreeSet<u32>, AllocError> {
     let mut numbers = BTreeSet::new(alloc);
     for (place, record) in t.records.iter().enumerate() {
-        if is_used(t.used, place) {
+        if place_used(t, place) {
             numbers.insert(record.sender_channel.0)?;
         }
     }
@@ -21,7 +22,7 @@ fn numbers(alloc: Global, t: &Table) -> Result<BTreeSet<u32>, AllocError> {
 // The line of the record with a number.
 fn write_record<W: Write>(out: &mut W, t: &Table, number: u32) -> io::Result<()> {
     for (place, record) in t.records.iter().enumerate() {
-        if is_used(t.used, place) && record.sender_channel.0 == number {
+        if place_used(t, place) && record.sender_channel.0 == number {
             writeln!(out, "c {}", Fields(record))?;
         }
     }
@@ -34,7 +35,7 @@ fn write_entries<W: Write>(out: &mut W, lab: &Lab, number: u32) -> io::Result<()
     for e in lab.table.entries.iter().take(lab.table.entry_count) {
         let (bytes, rest) = queue.split_at(queue.len().min(e.left as usize));
         if e.number.0 == number {
-            let kind = KindFields(kind_of(e.kind));
+            let kind = KindFields(e.kind.into());
             let left = e.left;
             writeln!(out, "e {number} {kind} {left}{}", Hex(bytes))?;
         }

@@ -14,7 +14,7 @@ ghost use Rattle.lookup.specs.Update.{entry_pushed, counted};
 ghost use Rattle.lookup.specs.Out.{route, out_used, state_of, outcome_of};
 ghost use Rattle.soundness.specs.Sees.{Sees};
 
-use channel::{ChannelId, Entry, Kind, Refusal, Table, stored};
+use channel::{ChannelId, Entry, Kind, Refusal, Table};
 use frames::{put_run, size_of_run};
 use octets::copy_in;
 use soundness::{Found, see};
@@ -27,7 +27,8 @@ struct Load<'a> {
     rekey: bool,
 }
 
-// The channel, by the buffer that frames go into, which is sent if `straight` and else staged, and the other one.
+// The channel, by the buffer that frames go into, which is sent if `straight` and else staged, and the other one. The three go together
+// below, and are no enum of two cases: each use would be a match with the same text in both arms.
 fn see_by(
     t: &Table,
     queue: &[u8],
@@ -45,7 +46,8 @@ fn see_by(
     }
 }
 
-// There is room for one entry more, of n bytes.
+// There is room for one entry more, of n bytes. That the used count is within the queue is a sound state's, and no type's, since C passes
+// any counts: so it stands in the contracts.
 fn has_room(t: &Table, queue: &[u8], n: usize) -> bool
     requires { t.now.queue_used ≤ length queue.now }
     ensures { result ≡ ltb t.now.entry_count most_entries && leb n (length queue.now - t.now.queue_used) }
@@ -72,7 +74,7 @@ fn enqueue(t: &mut Table, queue: &mut [u8], number: ChannelId, kind: Kind, bytes
     copy_in(queue, t.queue_used, bytes);
     t.entries[t.entry_count] = Entry {
         number,
-        kind: stored(kind),
+        kind: kind.into(),
         left: bytes.len() as u32,
     };
     t.entry_count += 1;

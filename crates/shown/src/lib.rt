@@ -2,7 +2,8 @@
 #![tactic(auto)]
 
 use answers::Numbers;
-use channel::{Kind, Record, kind_of};
+use channel::{Kind, Record};
+use lookup::place_used;
 use player::Lab;
 use std::fmt;
 
@@ -84,11 +85,6 @@ fn sum(bytes: &[u8]) -> u32 {
     bytes.iter().fold(0u32, |h, b| h.wrapping_mul(31).wrapping_add(u32::from(*b)))
 }
 
-// Whether a place is marked as used.
-pub fn is_used(used: u32, place: usize) -> bool {
-    place < 32 && (used >> place) % 2 == 1
-}
-
 // The lines of the whole state. A buffer's line has its name, the used count, the sum over all of it and the used part, as far as the
 // buffer goes.
 #[derive(Clone, Copy)]
@@ -99,12 +95,12 @@ impl fmt::Display for State<'_> {
         let t = &self.0.table;
         writeln!(f, "t {} {}", t.last, t.used)?;
         for (place, record) in t.records.iter().enumerate() {
-            if is_used(t.used, place) {
+            if place_used(t, place) {
                 writeln!(f, "p {place} {}", Fields(record))?;
             }
         }
         for e in t.entries.iter().take(t.entry_count) {
-            let kind = KindFields(kind_of(e.kind));
+            let kind = KindFields(e.kind.into());
             writeln!(f, "e {} {kind} {}", e.number.0, e.left)?;
         }
         let buffers = [

@@ -8,6 +8,9 @@ use lib.ListN.{length, drop, get_or, set}
 use lib.Seq.{get_or-set_same, get_or-set_other}
 use lib.Dec.{eqb}
 use native.Mathlib.Omega.{arith}
+use Rattle.std.specs.Prelude.{Option, Some, None}
+use Rattle.std.specs.Option.{MatchOption}
+use Rattle.std.specs.List.{list_any, range_with_len}
 use native.Mathlib.Nat.{div-one}
 use borrow.Author.Tests.{eqb-true, eqb-false, eq-eqb, ne_eqb, not-true}
 use Rattle.laws.specs.Bits.{bit}
@@ -21,10 +24,10 @@ use Rattle.channel.specs.Sound.{is_zero, unused_zero, distinct, all_marked}
 use Rattle.channel.specs.Sound as O
 use Rattle.channel.proofs.Lookup.{look_miss, look_unused}
 use Rattle.channel.specs.declared.Table as D
-use Rattle.lookup.specs.Held.{HeldAt}
+use Rattle.lookup.specs.Held.{HeldAt, PlaceIs}
 use Rattle.soundness.specs.declared.Look.{Look}
 use Rattle.soundness.specs.Tested.{Hinted, places_in}
-use Rattle.lookup.proofs.Walk.{place-next, place-past, look-here, held_at, number-held, used_stop, unused_start, unused_go, unused_stop}
+use Rattle.lookup.proofs.Walk.{place-next, place-past, look-here, look-next, look-past, held_at, number-held, used-next, used-past, used_stop, unused_start, unused_go, unused_stop}
 
 -- what a look has left so far
 abbrev look_of : List ℕ → Bool → Look
@@ -151,4 +154,36 @@ place_found t i n h l d b =
       at = held_at t.records t.used i n zero_record (omega arith) b;
       number = number-held t.used i n (get_or t.records i zero_record) b;
       here = found_at t.records t.used i n zero_record (omega arith) d b;
+    }
+
+-- THE PLACES BY INDEX, as a range gives them
+
+-- place i is used and has the number
+abbrev pub has : D.Table → ℕ → ℕ → Bool
+has t n i = bit t.used i && eqb (number_of (get_or t.records i zero_record)) n
+
+-- some place of the k from i on has it
+pub used_listed : (t : D.Table) (n i k : ℕ) → i + k ≡ length t.records → list_any (has t n) (range_with_len i k) ≡ is_used n (drop i (places_in t))
+used_listed t n i zero h = sym (used-past t.records t.used i n (omega arith))
+used_listed t n i (suc k) h = ap (λ b. has t n i || b) (used_listed t n (i + 1) k (omega arith)) ∙ sym (used-next t.records t.used i n zero_record (omega arith))
+
+-- none of those before i has it
+none_before : (t : D.Table) (n i : ℕ) → i ≤ length t.records → ((k : ℕ) → k < i → has t n k ≡ false) → look n (places_in t) ≡ look n (drop i (places_in t))
+none_before t n zero h out = refl
+none_before t n (suc i) h out =
+    let e : i + 1 ≡ suc i = omega arith in
+    none_before t n i (omega arith) (λ k l. out k (omega arith)) ∙ look-next t.records t.used i n zero_record (omega arith) (out i (omega arith)) ∙ ap (λ m. look n (drop m (places_in t))) e
+
+-- what a search of all of them finds
+pub first_is : (t : D.Table) (n : ℕ) (r : Option ℕ) → length t.records ≡ place_count
+    → MatchOption r ((k : ℕ) → 0 ≤ k → k < place_count → has t n k ≡ false) (λ i. (0 ≤ i) × (i < place_count) × (has t n i ≡ true) × ((k : ℕ) → 0 ≤ k → k < i → has t n k ≡ false)) → PlaceIs t n r
+first_is t n None h out = none_before t n place_count (omega arith) (λ k l. out k (omega arith) l) ∙ look-past t.records t.used place_count n (omega arith)
+first_is t n (Some i) h f =
+    let below : i < length t.records = omega (arith, f.1) in
+    record {
+      place = f.1;
+      used = (and_both (bit t.used i) _ f.2).0;
+      at = held_at t.records t.used i n zero_record below f.2;
+      number = number-held t.used i n (get_or t.records i zero_record) f.2;
+      here = none_before t n i (omega (arith, f.1)) (λ k l. f.3 k (omega arith) l) ∙ look-here t.records t.used i n zero_record below f.2;
     }

@@ -53,16 +53,16 @@ fn slot(n: ChannelId) -> usize
 }
 
 // What a look over the places leaves: for each slot one more than a place whose number has it, and 0 where there is none, and whether a
-// used place has a mark. A hint is tested before it is believed. As `Option<u8>` the hints would be twice as many bytes to set at each
-// call.
+// used place has a mark. A hint is tested before it is believed. Tried as `Option<u8>`, which proves: the test took 1.1 times as long.
 #[derive(Clone, Copy)]
 struct Look {
     hints: [u8; 64],
     marked: bool,
 }
 
-// `Sized`, here and below, is what the type of a lent table says, and what the check does not know of another crate's type: `typed` tells
-// it. It is no invariant of the type, since C passes a table of any bytes.
+// `Sized`, here and below: the lengths of a lent table's arrays, which `typed` tells since the check does not know them of another crate's
+// type, and that no more entries are counted than there are, which `within_limits` has tested. It is no invariant of the type: C passes any
+// counts.
 
 // The number is used at a place from `first` on.
 fn used_from(t: &Table, first: usize, n: ChannelId) -> bool
@@ -70,12 +70,7 @@ fn used_from(t: &Table, first: usize, n: ChannelId) -> bool
     requires first_in { first ≤ place_count }
     ensures { result ≡ is_used n.0 (drop first (places_in t.now)) }
 {
-    for i in first..t.records.len() {
-        if place_has(t, i, n) {
-            return true;
-        }
-    }
-    false
+    (first..t.records.len()).any(|i| place_has(t, i, n))
 }
 
 // The places, from the last to the first, and the unused entries: those not used are zero, and no number is used twice.
@@ -85,6 +80,8 @@ fn look_over(t: &Table) -> Option<Look>
 {
     let mut hints = [0u8; 64];
     let mut marked = false;
+    // By index: tried `iter().enumerate().rev()`, and the proof did not close: the kit's laws say what the reverse of a slice yields, and
+    // not of an enumeration.
     for i in (0..t.records.len()).rev() {
         let r = &t.records[i];
         if place_used(t, i) {
@@ -110,12 +107,7 @@ pub fn scan(t: &Table, n: ChannelId) -> Option<usize>
     requires { length t.now.records ≡ place_count }
     ensures { PlaceIs t.now n.0 result }
 {
-    for i in 0..t.records.len() {
-        if place_has(t, i, n) {
-            return Some(i);
-        }
-    }
-    None
+    (0..t.records.len()).find(|i| place_has(t, *i, n))
 }
 
 // The place of a number: the one that its hint names, or else the first that has it.
@@ -181,7 +173,8 @@ fn marks_named(t: &Table) -> bool
     true
 }
 
-// The first `used` bytes are whole frames, none empty. A step is as long as the frame that stands there: no range or iterator counts it.
+// The first `used` bytes are whole frames, none empty. By hand: an iterator over frames would end alike at the end and at what is no
+// frame.
 fn whole_frames(staged: &[u8], used: usize) -> bool
     requires { used ≤ length staged.now }
     ensures { result ≡ whole_frames used (take used staged.now) }
@@ -216,8 +209,8 @@ pub struct Found {
     pub waits: bool,
 }
 
-// Tests the state, and looks a channel's record up in it. Table and buffers are parameters, here and in every call, and no struct: each call
-// borrows by `&` what it only reads, and a struct of four `&mut` would ask more of its callers, those of the C interface among them.
+// Tests the state, and looks a channel's record up in it. Table and buffers are parameters, here and in every call, and no struct: each
+// call borrows by `&` what it only reads, and a struct of four `&mut` would ask more of its callers, those of the C interface among them.
 pub fn look_up(
     t: &Table,
     queue: &[u8],

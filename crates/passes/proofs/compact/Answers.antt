@@ -1,5 +1,5 @@
 -- A turn is `goes_by_lem` or `stays_by` of KeepLaws, and the end `end_queue` and `end_entries`.
-use Rattle.std.proofs.Common.{ℕ, refl, sym, ap, ◌≡◌, ◌∙◌, ◌-◌, List, replicate, arith}
+use Rattle.std.proofs.Common.{ℕ, refl, sym, ap, ◌≡◌, ◌∙◌, ◌-◌, ◌&&◌, List, replicate, arith}
 use lib.Seq.{sets}
 use Rattle.octets.specs.Buf.{write}
 use Rattle.channel.specs.Raw.{zero_entry}
@@ -44,7 +44,7 @@ pub loop-i-preserved : goal.loop-i-preserved
 loop-i-preserved c =
     record {
       going = stays_by c.requires c.loop-i.invariant.going c.loop-i-test.true _ _ _ _ _ _
-          (sym c.goes.ensures ∙ c.if-goes.false) c.left_of-left.ensures.0 c.cut_of-gone.ensures refl refl c.move_down.ensures refl;
+          (sym c.goes.ensures ∙ c.if-goes.false) c.left_of-left.ensures.0 c.cut_of-gone.ensures refl refl c.move_down.ensures (ap (λ b. c.loop-i.live && b) c.ne-live.ensures);
       table = stored c.args.t.now c.loop-i.t _ c.loop-i.invariant.table;
     }
 

@@ -10,6 +10,6 @@ returns c =
     let a = c.args in
     let l = length-replicate {A = ℕ} a.m 0 in
     c.size_of_run.ensures 0 (replicate a.m 0) l
-    ∙ length_run c.kind_of.result 0 a.limit (replicate a.m 0) c.requires.0
-    ∙ ap (run_size c.kind_of.result a.limit) l
-    ∙ ap (λ k. run_size k a.limit a.m) c.kind_of.ensures
+    ∙ length_run c.into.result 0 a.limit (replicate a.m 0) c.requires.0
+    ∙ ap (run_size c.into.result a.limit) l
+    ∙ ap (λ k. run_size k a.limit a.m) c.into.ensures

@@ -1,10 +1,10 @@
 -- A turn is one law of AllLaws.
-use Rattle.std.proofs.Common.{refl, ap, ◌∙◌, arith}
+use Rattle.std.proofs.Common.{refl, arith, rules, tests}
 use Rattle.channel.specs.Answers as A
 use Rattle.lookup.proofs.Limits.{limits}
 use Rattle.lookup.specs.Out.{route}
 use Rattle.pending.specs.Plan.{sent_by}
-use Rattle.pending.proofs.AllLaws.{passed_none, least_of, turn_from, turn_done, turn_stop, turn_on, stopped_is, refusal_is, flushed-gives, still_sound}
+use Rattle.pending.proofs.AllLaws.{passed_none, least_of, turn_from, turn_done, turn_stop, turn_on, handed_on, kept_on, still_sound}
 use Rattle.pending.proofs.flush_all.Goals as goal
 
 pub loop-n-init : goal.loop-n-init
@@ -29,17 +29,16 @@ returns-in_default c =
     let l = least_of r c.typed_lent.ensures p.sound c.loop-n.from _ c.in_default.ensures in
     turn_done r c.typed_lent.ensures p.sound (route c.args.form.writer c.args.form.rekey) c.loop-n.from _ l (sent_by a.form.writer a.t.now a.queue.now a.staged.now a.out.now a.kept.now) p refl
 
-pub returns-in-Err : goal.returns-in-Err
+pub returns-in_err-map_err : goal.returns-in_err-map_err
 unfolding A.answer
-returns-in-Err c =
+returns-in_err-map_err c =
     let a = c.args in
     let r = sent_by a.form.writer c.loop-n.t c.loop-n.queue c.loop-n.staged c.loop-n.out a.kept.now in
     let p = c.loop-n.invariant.passed in
     let l = least_of r c.typed_lent.ensures p.sound c.loop-n.from _ c.in-Some.ensures in
-    let why = c.in-Err.why in
-    let s = sent_by a.form.writer c.flush_next.new.t c.flush_next.new.queue c.flush_next.new.staged c.flush_next.new.out a.kept.now in
-    ap (λ a. record { answer = a; state = s }) (stopped_is c.in-Some.n why)
-    ∙ turn_stop r c.typed_lent.ensures p.sound (route c.args.form.writer c.args.form.rekey) c.loop-n.from _ l (sent_by a.form.writer a.t.now a.queue.now a.staged.now a.out.now a.kept.now) p refl _ c.in-Err.ensures (refusal_is why)
+    let m = c.in_err-map_err.ensures in
+    let h = handed_on c.in-Some.n _ _ c.flush_next.result c.from_residual.result m.cases m.variant c.from_residual.ensures.1 (λ k q. search (rules, tests)) in
+    rw h.0 (turn_stop r c.typed_lent.ensures p.sound (route c.args.form.writer c.args.form.rekey) c.loop-n.from _ l (sent_by a.form.writer a.t.now a.queue.now a.staged.now a.out.now a.kept.now) p refl _ c.flush_next.ensures h.1)
 
 pub loop-n-smaller : goal.loop-n-smaller
 loop-n-smaller c =
@@ -59,8 +58,8 @@ loop-n-preserved c =
     let p = i.passed in
     let w = route c.args.form.writer c.args.form.rekey in
     let l = least_of r c.typed_lent.ensures p.sound c.loop-n.from _ c.in-Some.ensures in
-    let f = c.in_default-flush_next.ensures in
+    let f = c.flush_next.ensures in
     record {
-      passed = rw c.past-from.ensures.0 (turn_on r c.typed_lent.ensures p.sound w c.loop-n.from _ l (sent_by a.form.writer a.t.now a.queue.now a.staged.now a.out.now a.kept.now) p refl _ f (still_sound r c.typed_lent.ensures p.sound _ _ f) (flushed-gives c.in_default-flush_next.field-0));
+      passed = rw c.past-from.ensures.0 (turn_on r c.typed_lent.ensures p.sound w c.loop-n.from _ l (sent_by a.form.writer a.t.now a.queue.now a.staged.now a.out.now a.kept.now) p refl _ f (still_sound r c.typed_lent.ensures p.sound _ _ f) (kept_on c.flush_next.result c.in_ok-map_err.ensures.variant));
       in_range = omega (arith, c.past-from.ensures);
     }

@@ -1,22 +1,11 @@
--- The number is used from `first` on as it is from place i on.
-use Rattle.std.proofs.Common.{sym, ◌∙◌, arith}
-use Rattle.lookup.proofs.Walk.{used-go, used_stop, used-past}
+-- What `any` answers of the places from `first` on.
+use Rattle.std.proofs.Common.{refl, ◌∙◌, ◌-◌, length, arith, rules, tests}
+use Rattle.std.proofs.lemmas.Iterator.{YieldsList-from_range}
+use Rattle.std.proofs.lemmas.Iterator.Search.{any_from_yields_List}
+use Rattle.soundness.proofs.Places.{has, used_listed}
 use Rattle.soundness.proofs.used_from.Goals as goal
-
-pub returns-then-place_has : goal.returns-then-place_has
-returns-then-place_has c =
-    let t = c.args.t.now in
-    let l = c.loop-i in
-    sym (l.invariant ∙ used_stop t.records t.used l.i _ _ (omega arith) (sym c.place_has.ensures ∙ c.if-place_has.true))
-
-pub loop-i-preserved : goal.loop-i-preserved
-loop-i-preserved c =
-    let t = c.args.t.now in
-    let l = c.loop-i in
-    l.invariant ∙ used-go t.records t.used l.i _ _ (omega arith) (sym c.place_has.ensures ∙ c.if-place_has.false)
 
 pub returns : goal.returns
 returns c =
-    let t = c.args.t.now in
-    let l = c.loop-i in
-    sym (l.invariant ∙ used-past t.records t.used l.i _ (omega arith))
+    any_from_yields_List (has c.args.t.now c.args.n.0) _ _ _ c.any.ensures.ran (YieldsList-from_range c.args.first (length c.args.t.now.records) (length c.args.t.now.records - c.args.first) (cc) refl) (λ x b q k. search (rules, tests))
+    ∙ used_listed c.args.t.now c.args.n.0 c.args.first _ (omega arith)
