@@ -1,5 +1,5 @@
 // The lines that the Rust draft can show too. It has a queue for each channel and no places, so records and entries go by number.
-use channel::Table;
+use channel::{ChannelId, Table};
 use lookup::place_used;
 use player::{Lab, Strings};
 use shown::{Fields, Hex, KindFields};
@@ -9,20 +9,20 @@ use std::io;
 use std::io::Write;
 
 // The numbers of the channels, in ascending order.
-fn numbers(alloc: Global, t: &Table) -> Result<BTreeSet<u32>, AllocError> {
+fn numbers(alloc: Global, t: &Table) -> Result<BTreeSet<ChannelId>, AllocError> {
     let mut numbers = BTreeSet::new(alloc);
     for (place, record) in t.records.iter().enumerate() {
         if place_used(t, place) {
-            numbers.insert(record.sender_channel.0)?;
+            numbers.insert(record.sender_channel)?;
         }
     }
     Ok(numbers)
 }
 
 // The line of the record with a number.
-fn write_record<W: Write>(out: &mut W, t: &Table, number: u32) -> io::Result<()> {
+fn write_record<W: Write>(out: &mut W, t: &Table, number: ChannelId) -> io::Result<()> {
     for (place, record) in t.records.iter().enumerate() {
-        if place_used(t, place) && record.sender_channel.0 == number {
+        if place_used(t, place) && record.sender_channel == number {
             writeln!(out, "c {}", Fields(record))?;
         }
     }
@@ -30,14 +30,14 @@ fn write_record<W: Write>(out: &mut W, t: &Table, number: u32) -> io::Result<()>
 }
 
 // A line for each entry of the channel with a number, in order of acceptance, with its bytes as far as the queue goes.
-fn write_entries<W: Write>(out: &mut W, lab: &Lab, number: u32) -> io::Result<()> {
+fn write_entries<W: Write>(out: &mut W, lab: &Lab, number: ChannelId) -> io::Result<()> {
     let mut queue = lab.queue.as_slice();
     for e in lab.table.entries.iter().take(lab.table.entry_count) {
         let (bytes, rest) = queue.split_at(queue.len().min(e.left as usize));
-        if e.number.0 == number {
+        if e.number == number {
             let kind = KindFields(e.kind.into());
             let left = e.left;
-            writeln!(out, "e {number} {kind} {left}{}", Hex(bytes))?;
+            writeln!(out, "e {} {kind} {left}{}", number.0, Hex(bytes))?;
         }
         queue = rest;
     }
