@@ -9,7 +9,7 @@ use native.Mathlib.Numerals.{add-one}
 use native.Mathlib.Omega.{arith}
 use lib.Dec.{leb, ltb}
 use borrow.Author.Tests.{leb-true, leb-false, ltb-true, ltb-false}
-use lib.ListN.{length, take, drop, length-append, length-take, length-drop, drop_of_length-le}
+use lib.ListN.{length, take, drop, length-append, length-take, length-drop, length-map, drop_of_length-le}
 use lib.Seq.{take_all, take_at, drop_at, get_or-drop}
 use Rattle.std.proofs.lemmas.List.{nil_from_length}
 use Rattle.laws.proofs.Tests.{by_test}
@@ -237,6 +237,10 @@ count-pieces (suc c) limit [] h l = sym (ceil_zero limit h)
 count-pieces (suc c) limit (b ∷ bs) h l =
     let d = length-drop limit (b ∷ bs) in
     ap suc (count-pieces c limit (drop limit (b ∷ bs)) h (omega arith) ∙ ap (λ n. ceil_div n limit) d) ∙ sym (ceil_step (length (b ∷ bs)) limit h (omega arith))
+
+pub count-packets : (kind : Kind) (peer limit : ℕ) (bs : List ℕ) → 0 < limit → length (packets kind peer limit bs) ≡ ceil_div (length bs) limit
+unfolding W.packets
+count-packets kind peer limit bs h = length-map (pieces (length bs) limit bs) (data_message kind peer) ∙ count-pieces (length bs) limit bs h (omega arith)
 
 length-pieces : (c : ℕ) (kind : Kind) (peer limit : ℕ) (bs : List ℕ) → 0 < limit → length bs ≤ c
     → length (frames (map (data_message kind peer) (pieces c limit bs))) ≡ run_size kind limit (length bs)

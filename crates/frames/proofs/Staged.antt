@@ -3,11 +3,11 @@
 -- Assumes nothing.
 use mathlib.Core.Path.{◌≡◌, refl, sym, ap, ◌∙◌}
 use mathlib.Core.List.{List, [], ◌++◌, append_assoc}
-use Prim.Native.Nat.{ℕ, ◌+◌}
+use Prim.Native.Nat.{ℕ, ◌+◌, ◌≤◌}
 use lib.ListN.{length, take, drop, replicate, length-append, take-append-drop}
 use lib.Seq.{take_at}
-use Rattle.octets.specs.Buf.{closed}
-use Rattle.octets.proofs.Laws.{closed_parts}
+use Rattle.octets.specs.Buf.{write, closed}
+use Rattle.octets.proofs.Laws.{write-behind, closed_parts}
 use Rattle.channel.specs.Wire.{frames}
 use Rattle.channel.proofs.Wire.{frames-append}
 
@@ -17,6 +17,11 @@ frames_split k ps = ap frames (sym (take-append-drop k ps)) ∙ frames-append (t
 
 pub length_split : (k : ℕ) (ps : List (List ℕ)) → length (frames ps) ≡ length (frames (take k ps)) + length (frames (drop k ps))
 length_split k ps = ap length (frames_split k ps) ∙ length-append (frames (take k ps)) (frames (drop k ps))
+
+-- a run put behind the used part
+pub put-behind : (ps qs : List (List ℕ)) (rest : List ℕ) → length (frames qs) ≤ length rest
+    → write (length (frames ps)) (frames qs) (frames ps ++ rest) ≡ frames (ps ++ qs) ++ drop (length (frames qs)) rest
+put-behind ps qs rest h = rw (frames-append ps qs) (write-behind (frames ps) (frames qs) rest h)
 
 -- the bytes of the first k frames, wherever staged holds them in front
 pub take_front : (k : ℕ) (ps : List (List ℕ)) (rest : List ℕ) → take (length (frames (take k ps))) (frames ps ++ rest) ≡ frames (take k ps)

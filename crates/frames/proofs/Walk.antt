@@ -5,6 +5,7 @@ use mathlib.Core.Path.{◌≡◌, refl, sym, ap, ◌∙◌}
 use mathlib.Core.Bool.{Bool, true, false, ◌&&◌, and-false, true≢false}
 use mathlib.Core.List.{List, [], ◌∷◌}
 use Prim.Native.Nat.{ℕ, zero, suc, ◌+◌, ◌-◌, ◌≤◌, ◌<◌}
+use native.Mathlib.Nat.{sub-zero, zero-add}
 use native.Mathlib.Omega.{arith}
 use borrow.Author.Tests.{lt-ltb, le-leb, lt-leb, ltb-true, ltb-false, leb-true}
 use lib.Dec.{ltb, leb}
@@ -184,6 +185,10 @@ pub record Left (used room : ℕ) (bs : List ℕ) (at count : ℕ) : Type 0 wher
   pub frames : fitting room (messages_of used bs) ≡ count + fitting (room - at) (messages_of used (drop at bs))
   pub bytes : fitting_bytes room (messages_of used bs) ≡ at + fitting_bytes (room - at) (messages_of used (drop at bs))
 
+-- no frame is passed yet
+pub left-start : (used room : ℕ) (bs : List ℕ) → whole_frames used bs ≡ true → Left used room bs 0 0
+left-start used room bs w = record { whole = w; frames = simp (sub-zero, zero-add); bytes = simp (sub-zero, zero-add) }
+
 module _ {used room at count : ℕ} {bs : List ℕ} (l : Left used room bs at count) where
   -- what is found where nothing more fits
   done-frames : fitting (room - at) (messages_of used (drop at bs)) ≡ 0 → count ≡ fitting room (messages_of used bs)
@@ -194,7 +199,7 @@ module _ {used room at count : ℕ} {bs : List ℕ} (l : Left used room bs at co
       omega (arith, l.bytes, none_fit (room - at) (messages_of used (drop at bs)) e)
       ∙ ap (λ k. length (frames (take k (messages_of used bs)))) (sym (done-frames e))
 
-  all_passed : length bs ≤ at → (count ≡ fitting room (messages_of used bs)) × (at ≡ length (frames (take count (messages_of used bs))))
+  pub all_passed : length bs ≤ at → (count ≡ fitting room (messages_of used bs)) × (at ≡ length (frames (take count (messages_of used bs))))
   unfolding T.fitting
   all_passed h =
       let d : drop at bs ≡ [] = drop_of_length-le bs {i = at} h in
@@ -205,7 +210,7 @@ module _ {used room at count : ℕ} {bs : List ℕ} (l : Left used room bs at co
     fits : length (drop at bs) ≤ used
     fits = omega (arith, length-drop at bs)
 
-    left-some : 0 < whole_at (drop at bs)
+    pub left-some : 0 < whole_at (drop at bs)
     left-some =
         by_test (ltb 0 (whole_at (drop at bs)))
         (λ t. ltb-true 0 (whole_at (drop at bs)) t)

@@ -36,7 +36,7 @@ malformed-is r ty sd p e = B.refusing r ty sd (act (incoming p)) false 7 (by_act
 
 -- NO RECORD HAS THE NUMBER
 
-unknown_is : (r : Raw) (m : M.Message) → look (to_whom m) (places_of r.held.used r.held.records) ≡ nowhere → taken_in (meaning r).table (message_of m) ≡ refuse 2
+pub unknown_is : (r : Raw) (m : M.Message) → look (to_whom m) (places_of r.held.used r.held.records) ≡ nowhere → taken_in (meaning r).table (message_of m) ≡ refuse 2
 unfolding G.taken_in A.message_of A.to_whom
 unknown_is r (OpenConfirmation m) e = none-known r _ e _
 unknown_is r (OpenFailure m) e = none-known r _ e _

@@ -109,9 +109,22 @@ distinct-next rs w i z h = ap distinct (place-next rs w i z h) ∙ step (bit w i
     step true = refl
     step false = refl
 
+pub distinct-free : (rs : List Record) (w i : ℕ) (z : Record) → i < length rs → bit w i ≡ false
+    → distinct (drop i (places_of w rs)) ≡ distinct (drop (i + 1) (places_of w rs))
+distinct-free rs w i z h t = distinct-next rs w i z h
+    ∙ ap (λ b. not (b && is_used (number_of (get_or rs i z)) (drop (i + 1) (places_of w rs))) && distinct (drop (i + 1) (places_of w rs))) t
+
+pub distinct-go : (rs : List Record) (w i : ℕ) (z : Record) → i < length rs → bit w i ≡ true → is_used (number_of (get_or rs i z)) (drop (i + 1) (places_of w rs)) ≡ false
+    → distinct (drop i (places_of w rs)) ≡ distinct (drop (i + 1) (places_of w rs))
+distinct-go rs w i z h t u = distinct-next rs w i z h ∙ ap₂ (λ b d. not (b && d) && distinct (drop (i + 1) (places_of w rs))) t u
+
 pub distinct_stop : (rs : List Record) (w i : ℕ) (z : Record) → i < length rs → bit w i ≡ true → is_used (number_of (get_or rs i z)) (drop (i + 1) (places_of w rs)) ≡ true
     → distinct (drop i (places_of w rs)) ≡ false
 distinct_stop rs w i z h t u = distinct-next rs w i z h ∙ ap₂ (λ b d. not (b && d) && distinct (drop (i + 1) (places_of w rs))) t u
+
+pub distinct-past : (rs : List Record) (w i : ℕ) → length rs ≤ i → distinct (drop i (places_of w rs)) ≡ true
+unfolding O.distinct
+distinct-past rs w i h = rw (place-past rs w i h)
 
 -- marks
 pub marked_next : (rs : List Record) (w i : ℕ) (z : Record) (es : List Entry) → i < length rs
@@ -196,11 +209,34 @@ pub zero-entry_flat : (p : E.Entry) → eqb p.number.0 0 && not p.kind.extended 
 unfolding O.is_zero_entry Cl.every
 zero-entry_flat p = simp (and_assoc, and-true)
 
+pub zero-next : (es : List E.Entry) (k : ℕ) (z : E.Entry) → k < length es
+    → entries_zero (drop k es) ≡ is_zero_entry (get_or es k z) && entries_zero (drop (k + 1) es)
+unfolding O.entries_zero
+zero-next es k z h = rw (next es k z h)
+
+pub zero-go : (es : List E.Entry) (k : ℕ) (z : E.Entry) → k < length es → is_zero_entry (get_or es k z) ≡ true
+    → entries_zero (drop k es) ≡ entries_zero (drop (k + 1) es)
+zero-go es k z h t = zero-next es k z h ∙ ap (λ b. b && entries_zero (drop (k + 1) es)) t
+
+pub zero_stop : (es : List E.Entry) (k : ℕ) (z : E.Entry) → k < length es → is_zero_entry (get_or es k z) ≡ false
+    → entries_zero (drop k es) ≡ false
+zero_stop es k z h t = zero-next es k z h ∙ ap (λ b. b && entries_zero (drop (k + 1) es)) t
+
+pub zero-past : (es : List E.Entry) (k : ℕ) → length es ≤ k → entries_zero (drop k es) ≡ true
+unfolding O.entries_zero
+zero-past es k h = rw (drop_of_length-le es {i = k} h)
+
 pub sum-next : (es : List E.Entry) (n k : ℕ) (z : E.Entry) → k < n → k < length es → sum_left (n - k) (drop k es) ≡ (get_or es k z).left + sum_left (n - (k + 1)) (drop (k + 1) es)
 unfolding O.sum_left
 sum-next es n k z h l =
     let e : n - k ≡ suc (n - (k + 1)) = omega arith in
     rw (e, next es k z l)
+
+pub sum-start : (es : List E.Entry) (n : ℕ) → sum_left n es ≡ 0 + sum_left (n - 0) (drop 0 es)
+sum-start es n =
+    let e : n - 0 ≡ n = omega arith in
+    let z : sum_left (n - 0) es ≡ sum_left n es = ap (λ k. sum_left k es) e in
+    omega arith
 
 pub sum_past : (es : List E.Entry) (n k : ℕ) → n ≤ k → sum_left (n - k) (drop k es) ≡ 0
 unfolding O.sum_left
@@ -241,6 +277,14 @@ unfolding S.any_entry
 any_next c es bs k n z h l =
     let m : k < length (entries_of c es bs) = omega (arith, length-entries c es bs l) in
     ap (any_entry n) (next (entries_of c es bs) k no_entry m) ∙ ap (λ x. eqb x n || any_entry n (drop (k + 1) (entries_of c es bs))) (number_at c es bs k z h l)
+
+pub any_go : (c : ℕ) (es : List E.Entry) (bs : List ℕ) (k n : ℕ) (z : E.Entry) → k < c → c ≤ length es → eqb (get_or es k z).number.0 n ≡ false
+    → any_entry n (drop k (entries_of c es bs)) ≡ any_entry n (drop (k + 1) (entries_of c es bs))
+any_go c es bs k n z h l t = any_next c es bs k n z h l ∙ ap (λ b. b || any_entry n (drop (k + 1) (entries_of c es bs))) t
+
+pub any_stop : (c : ℕ) (es : List E.Entry) (bs : List ℕ) (k n : ℕ) (z : E.Entry) → k < c → c ≤ length es → eqb (get_or es k z).number.0 n ≡ true
+    → any_entry n (drop k (entries_of c es bs)) ≡ true
+any_stop c es bs k n z h l t = any_next c es bs k n z h l ∙ ap (λ b. b || any_entry n (drop (k + 1) (entries_of c es bs))) t
 
 pub any_past : (c : ℕ) (es : List E.Entry) (bs : List ℕ) (k n : ℕ) → c ≤ k → c ≤ length es → any_entry n (drop k (entries_of c es bs)) ≡ false
 unfolding S.any_entry

@@ -7,8 +7,8 @@ use Prim.Native.Nat.{ℕ, suc, ◌+◌, ◌-◌, ◌≤◌, ◌<◌}
 use native.Mathlib.Nat.{add-zero}
 use native.Mathlib.Numerals.{add-one}
 use native.Mathlib.Omega.{arith}
-use lib.ListN.{length, take, drop, set, replicate, length-set, length-append, length-drop, length-replicate, take-append-drop}
-use lib.Seq.{sets, length-take-le, drop-drop, sets-eq, take-add, take_at, drop_at, drop-append-add}
+use lib.ListN.{length, take, drop, set, replicate, get_or, length-set, length-append, length-drop, length-replicate, take-append-drop}
+use lib.Seq.{sets, length-take-le, drop-cons, drop-drop, sets-eq, take-add, take_at, drop_at, drop-append-add, drop-length}
 use Rattle.std.specs.List.{copy_within, FoldsTo}
 pub use Rattle.std.proofs.lemmas.List.{drop-take}
 use Rattle.std.proofs.lemmas.Nat.{from_be_bytes-to_be_bytes_4}
@@ -46,6 +46,12 @@ write_sets at (x ∷ xs) l = rw (add-one at) (write_sets (suc at) xs (set l at x
 pub write_eq : (at : ℕ) (xs l : List ℕ) → at + length xs ≤ length l → write at xs l ≡ take at l ++ xs ++ drop (at + length xs) l
 write_eq at xs l h = write_sets at xs l ∙ sets-eq xs l at h
 
+-- the used part grown by the run, and the rest
+pub take-write : (at : ℕ) (xs l : List ℕ) → at + length xs ≤ length l → take (at + length xs) (write at xs l) ≡ take at l ++ xs
+take-write at xs l h =
+    let n : length (take at l ++ xs) ≡ at + length xs = length-append (take at l) xs ∙ ap (λ k. k + length xs) (length-take-le at l (omega arith)) in
+    rw (write_eq at xs l h) (take_at (take at l ++ xs) (drop (at + length xs) l) (at + length xs) n)
+
 pub drop-write : (at : ℕ) (xs l : List ℕ) → at + length xs ≤ length l → drop (at + length xs) (write at xs l) ≡ drop (at + length xs) l
 drop-write at xs l h =
     let n : length (take at l ++ xs) ≡ at + length xs = length-append (take at l) xs ∙ ap (λ k. k + length xs) (length-take-le at l (omega arith)) in
@@ -56,6 +62,23 @@ pub write-behind : (used xs rest : List ℕ) → length xs ≤ length rest → w
 write-behind used xs rest h =
     let l = length-append used rest in
     rw (write_eq (length used) xs (used ++ rest) (omega arith), take_at used rest (length used) refl, drop-append-add used rest (length xs))
+
+-- LOOPS THAT WRITE
+
+-- one turn of a loop that stores src from `at` on
+pub write_step : (at j : ℕ) (src dst : List ℕ) → j < length src
+    → write (at + j) (drop j src) dst ≡ write (at + (j + 1)) (drop (j + 1) src) (set dst (at + j) (get_or src j 0))
+unfolding write
+write_step at j src dst h =
+    let e : at + (j + 1) ≡ at + j + 1 = omega arith in
+    rw (drop-cons src j 0 h, e, add-one j)
+
+-- no turn, and the last
+pub write-start : (at : ℕ) (src dst : List ℕ) → write at src dst ≡ write (at + 0) (drop 0 src) dst
+write-start at src dst = rw (add-zero at)
+
+pub write_end : (at j : ℕ) (src dst : List ℕ) → j ≡ length src → write (at + j) (drop j src) dst ≡ dst
+write_end at j src dst e = rw (e, drop-length src) (write-nil (at + length src) dst)
 
 -- WHAT THE LIBRARY'S METHODS LEAVE
 

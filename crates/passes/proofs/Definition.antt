@@ -29,7 +29,7 @@ use Rattle.channel.proofs.Entries.{flushed_skip, flushed-whole, flushed-part, wi
 use Rattle.passes.specs.Keep.{cut, keeps}
 use Rattle.passes.specs.Flush.{taken_by, stops_by, size_by, adds, sizes, size_of, any_left, with_limit}
 use Rattle.passes.proofs.KeepLaws.{keeps-nil, keeps_goes, keeps_stays}
-use Rattle.passes.proofs.FlushLaws.{flushed-nil, taken-left, out-go, out_stop, stop_is, stop_less, stop_takes, sizes-go, sizes_stop}
+use Rattle.passes.proofs.FlushLaws.{ahead, flushed-nil, taken-left, out-go, out_stop, stop_is, stop_less, stop_takes, sizes-go, sizes_stop}
 
 -- ---- what stays
 
@@ -182,3 +182,7 @@ flushed-limit c l w (e ∷ es) h =
     flushed-whole c w e es t u ∙ rw (z, packets-nil (kind_of e.kind) (peer_of c) c.recipient_maximum_packet_size, sub-zero w) in
     a ∙ ap (sending [] 0) (flushed-limit c l w es o.1) ∙ sym b)
     (λ t. flushed_skip (with_limit c l) w e es t ∙ rw (flushed-limit c l w es o.1) (sym (flushed_skip c w e es t)))
+
+-- no entry is passed yet
+pub any_start : (n : ℕ) (es : List E.Entry) (count : ℕ) → any_left n (take count es) ≡ any_left n (ahead es count 0)
+any_start n es count = rw (sub-zero count)

@@ -4,7 +4,7 @@ use mathlib.Core.Path.{◌≡◌, refl, ap, sym, ◌∙◌}
 use mathlib.Core.Bool.{Bool, true, false, cond}
 use mathlib.Core.List.{List, [], ◌∷◌, ◌++◌}
 use Prim.Native.Nat.{ℕ, zero, suc, min, ◌+◌, ◌-◌, ◌*◌, ◌≤◌, ◌<◌}
-use native.Mathlib.Nat.{add_assoc, add-zero, sub-zero, min-eq_left, min-eq_right, le_of_lt}
+use native.Mathlib.Nat.{add_assoc, add-zero, zero-add, sub-zero, min-eq_left, min-eq_right, le_of_lt}
 use native.Mathlib.Omega.{arith}
 use borrow.Author.Tests.{le-leb, lt-leb, ltb-true, ltb-false}
 use lib.Dec.{ltb, eqb}
@@ -33,7 +33,7 @@ use Rattle.channel.proofs.Entries.{flushed_skip, flushed-whole, flushed-part}
 use Rattle.passes.specs.declared.Size.{Size}
 use Rattle.passes.specs.Keep.{rest, Base}
 use Rattle.passes.specs.Flush.{taken_by, stops_by, size_by, adds, sizes, Framing, Sizing}
-use Rattle.passes.proofs.KeepLaws.{at, nought, entry_at, rest-cons, rest-none, sum-cons}
+use Rattle.passes.proofs.KeepLaws.{at, nought, entry_at, rest-cons, rest-none, rest-start, sum-cons}
 
 -- ---- what an entry adds, as the code tests it
 
@@ -77,6 +77,13 @@ taken-left n w number left = by (eqb number n)
     by true = omega arith
     by false = omega arith
 
+pub taken-window : (n w number left : ℕ) → taken_by n w number left ≤ w
+taken-window n w number left = by (eqb number n)
+  where
+    by : (b : Bool) → cond b (min left w) 0 ≤ w
+    by true = omega arith
+    by false = omega arith
+
 -- ---- the framing pass
 
 module _ {c : Record} {es : List E.Entry} {count : ℕ} {q : List ℕ} {start : ℕ} {dst₀ dst : List ℕ} {i off w pos : ℕ}
@@ -89,6 +96,9 @@ module _ {c : Record} {es : List E.Entry} {count : ℕ} {q : List ℕ} {start : 
 
   pub m_left : m ≤ (at es i).left
   m_left = rw em (taken-left (number_of c) w (at es i).number.0 (at es i).left)
+
+  pub m_window : m ≤ w
+  m_window = rw em (taken-window (number_of c) w (at es i).number.0 (at es i).left)
 
   pub f_sums : off + (at es i).left + sum_left (count - (i + 1)) (drop (i + 1) es) ≡ sum_left count es
   f_sums = let s = sum-cons es count i h (omega (arith, b.places, b.few)) in omega (arith, g.ahead)
@@ -137,6 +147,18 @@ module _ {c : Record} {es : List E.Entry} {count : ℕ} {q : List ℕ} {start : 
   pub frame_stop : (l : List ℕ) (p : ℕ) → stops_by (number_of c) w (at es i).number.0 (at es i).left ≡ true → l ≡ write pos bs dst → p ≡ pos + length bs
       → (l ≡ write start (frames (flushed c c.recipient_window_size (entries_of count es q)).out) dst₀) × (p ≡ start + length (frames (flushed c c.recipient_window_size (entries_of count es q)).out))
   frame_stop l p t e1 ep = (e1 ∙ sym (g.bytes ∙ rw (f_stop t)), omega (arith, g.next, ap length (f_stop t)))
+
+-- no entry is framed yet
+pub frame-start : (c : Record) (es : List E.Entry) (count : ℕ) (q : List ℕ) (start : ℕ) (dst : List ℕ) → Framing c es count q start dst dst 0 0 c.recipient_window_size start
+frame-start c es count q start dst =
+    let e = rest-start es count q in
+    record {
+      within = omega arith;
+      ahead = rw (sub-zero count) (zero-add _);
+      same = refl;
+      next = rw e;
+      bytes = rw e;
+    }
 
 module _ {c : Record} {es : List E.Entry} {count : ℕ} {q : List ℕ} {start : ℕ} {dst₀ dst : List ℕ} {i off w pos : ℕ}
     (g : Framing c es count q start dst₀ dst i off w pos) (h : count ≤ i) where
@@ -219,6 +241,14 @@ module _ {es : List E.Entry} {count : ℕ} {c : Record} {i w wrote size : ℕ} (
 
   pub size_go : stops_by (number_of c) w (at es i).number.0 (at es i).left ≡ false → Sizing c es count (i + 1) (w - m) (wrote + m) (size + s)
   size_go t = record { within = omega arith; whole = size_sum t }
+
+-- no entry is counted yet
+pub size_start : (es : List E.Entry) (count : ℕ) (c : Record) (w : ℕ) → w ≡ c.recipient_window_size → Sizing c es count 0 w 0 0
+size_start es count c w e =
+    let r : Size = sizes c w (take count es) in
+    let a : r ≡ adds 0 0 (sizes c w (ahead es count 0)) =
+    rw (sub-zero count) (λ j. record { wrote = sym (zero-add r.wrote) j; size = sym (zero-add r.size) j; all = r.all }) in
+    record { within = omega arith; whole = ap (λ (v : ℕ). sizes c v (take count es)) (sym e) ∙ a }
 
 pub size_end : {es : List E.Entry} {count : ℕ} {c : Record} {i w wrote size : ℕ} → Sizing c es count i w wrote size → count ≤ i
     → record { wrote = wrote; size = size; all = true } ≡ sizes c c.recipient_window_size (take count es)

@@ -4,10 +4,10 @@ use mathlib.Core.Path.{◌≡◌, refl, ap, sym, ◌∙◌}
 use mathlib.Core.Bool.{Bool, true, false, ◌&&◌, cond}
 use mathlib.Core.List.{append_assoc, List, [], ◌∷◌, ◌++◌}
 use Prim.Native.Nat.{ℕ, suc, ◌+◌, ◌-◌, ◌≤◌, ◌<◌}
-use native.Mathlib.Nat.{add-zero, zero-add}
+use native.Mathlib.Nat.{add-zero, zero-add, sub-zero}
 use native.Mathlib.Numerals.{add-one}
 use native.Mathlib.Omega.{arith}
-use borrow.Author.Tests.{leb-false}
+use borrow.Author.Tests.{leb-true, leb-false}
 use lib.Dec.{leb, eqb}
 use lib.ListN.{length, take, drop, set, replicate, get_or, length-set, length-append, length-drop, length-replicate}
 use lib.Seq.{sets, length-take-le, drop-drop, drop-set-lt, get_or-drop, sets-eq}
@@ -34,6 +34,12 @@ sets_filled k n z es part e h =
     let m : length (take n (drop k es)) ≡ n = length-take-le n (drop k es) (simp length-drop (omega arith)) in
     let l : length (replicate n z) ≡ n = length-replicate n z in
     rw (e, m, drop-drop n k es) (sym (sets-eq (replicate n z) es k (omega arith) ∙ ap (λ x. take k es ++ replicate n z ++ drop (k + x) es) l ∙ append_assoc (take k es) (replicate n z) (drop (k + n) es)))
+
+-- no place is left to clear
+pub sets_zero_end : (es : List E.Entry) (count j : ℕ) (z : E.Entry) → count ≤ j → sets es j (replicate (count - j) z) ≡ es
+sets_zero_end es count j z h =
+    let e : count - j ≡ 0 = omega arith in
+    rw e
 
 pub drop-write : (n at : ℕ) (xs l : List ℕ) → at + length xs ≤ n → drop n (write at xs l) ≡ drop n l
 unfolding B.write
@@ -105,6 +111,14 @@ cut_le n w live number left t = by (live && eqb number n) t
     by : (b : Bool) → b && leb left w ≡ false → cond b w 0 ≤ left
     by true t = omega (arith, leb-false left w t)
     by false t = omega arith
+
+-- an entry that goes is held by the window
+pub goes_le : (n w : ℕ) (live : Bool) (number left : ℕ) → goes_by n live w number left ≡ true → left ≤ w
+goes_le n w live number left t = by (live && eqb number n) t
+  where
+    by : (b : Bool) → b && leb left w ≡ true → left ≤ w
+    by true t = leb-true left w t
+    by false t = let z : ◌≡◌ {A = ℕ} 0 1 = cc in absurd (omega arith)
 
 module _ {es₀ : List E.Entry} {count : ℕ} {q₀ : List ℕ} {used n : ℕ} {ks : List Entry}
     {es : List E.Entry} {q : List ℕ} {i k off to w : ℕ} {live : Bool}
@@ -206,6 +220,29 @@ sets_append [] ys l i = rw (add-zero i)
 sets_append (x ∷ xs) ys l i =
     let e : i + suc (length xs) ≡ suc i + length xs = omega arith in
     rw e (sets_append xs ys (set l i x) (suc i))
+
+pub rest-start : (es : List E.Entry) (count : ℕ) (q : List ℕ) → rest es count q 0 0 ≡ entries_of count es q
+rest-start es count q = rw (sub-zero count)
+
+-- no place is done
+pub going_start : (es₀ : List E.Entry) (count : ℕ) (q₀ : List ℕ) (used n w : ℕ) → Base es₀ count q₀ used
+    → Going es₀ count q₀ used n (keeps n true w (entries_of count es₀ q₀)) es₀ q₀ 0 0 0 0 w true
+going_start es₀ count q₀ used n w b =
+    let e = rest-start es₀ count q₀ in
+    record {
+      within = omega arith;
+      behind = omega arith;
+      lower = omega arith;
+      ahead = rw (sub-zero count) (zero-add _ ∙ b.total);
+      same_q = refl;
+      same_e = b.places;
+      rest_q = refl;
+      rest_e = refl;
+      bytes = rw e;
+      places = rw e;
+      kept = rw e (zero-add _);
+      room = rw e (zero-add _);
+    }
 
 -- a front and a tail, written one after the other
 pub front_write : (xs zs l : List ℕ) (used : ℕ) → length xs + length zs ≡ used → used ≤ length l

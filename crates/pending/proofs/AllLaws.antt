@@ -6,6 +6,7 @@ use mathlib.Core.Bool.{Bool, true, false, ◌&&◌, ◌||◌, not, cond, true≢
 use mathlib.Core.List.{List, [], ◌∷◌, ◌++◌}
 use lib.ListN.{length, take}
 use lib.Dec.{leb, ltb, eqb}
+use native.Mathlib.Nat.{sub-zero}
 use native.Mathlib.Omega.{arith}
 use borrow.Author.Tests.{leb-true, leb-false, ltb-true, ltb-false, le-leb, lt-ltb, le-ltb, eqb-true, eqb-false, eq-eqb}
 use Rattle.laws.proofs.Tests.{by_test, shut, and_both, or_neither, or_second}
@@ -58,6 +59,13 @@ use Rattle.pending.proofs.PlanLaws.{flush-limit, flush_goes, closed-place, open_
 
 -- THE LOWEST NUMBER
 
+-- one number, by the test of it
+pub near_yes : (from n v : ℕ) (l : Least) → v ≡ n → leb from v && (not l.found || ltb n l.number) ≡ true → record { found = true; number = n } ≡ nearer_by from n l
+near_yes from n v l e t = ap (λ b. cond b (record { found = true; number = n }) l) (sym t ∙ ap (λ m. leb from m && (not l.found || ltb n l.number)) e)
+
+pub near_no : (from n v : ℕ) (l : Least) → v ≡ n → leb from v && (not l.found || ltb n l.number) ≡ false → l ≡ nearer_by from n l
+near_no from n v l e t = ap (λ b. cond b (record { found = true; number = n }) l) (sym t ∙ ap (λ m. leb from m && (not l.found || ltb n l.number)) e)
+
 pub least_cons : (from : ℕ) (l : Least) (es : List E.Entry) (count i : ℕ) → i < count → count ≤ length es
     → least_from from l (ahead es count i) ≡ least_from from (nearer_by from (at es i).number.0 l) (ahead es count (i + 1))
 unfolding least_from
@@ -66,6 +74,10 @@ least_cons from l es count i h f = ap (least_from from l) (ahead-cons es count i
 pub least_none : (from : ℕ) (l : Least) (es : List E.Entry) (count i : ℕ) → count ≤ i → least_from from l (ahead es count i) ≡ l
 unfolding least_from
 least_none from l es count i h = let k : count - i ≡ 0 = omega arith in rw k
+
+-- no entry is passed yet
+pub least_start : (from : ℕ) (l : Least) (es : List E.Entry) (count : ℕ) → least_from from l (take count es) ≡ least_from from l (ahead es count 0)
+least_start from l es count = rw (sub-zero count)
 
 -- a number that is not passed is no nearer than the best after it, and the best only comes nearer
 nearer_le : (from n : ℕ) (l : Least) → from ≤ n → ((nearer_by from n l).found ≡ true) × ((nearer_by from n l).number ≤ n)

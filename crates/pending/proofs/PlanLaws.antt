@@ -80,6 +80,10 @@ pub eof-none : (peer at : ℕ) (eof close : Bool) (l d : List ℕ) → eof ≡ f
 eof-none peer at true close l d e f = absurd (true≢false e)
 eof-none peer at false close l d e f = f
 
+pub none-room : (peer at n : ℕ) (eof close : Bool) → eof ≡ false → at + length (frames (marked peer eof close)) ≤ n → at + length (frames (marked peer false close)) ≤ n
+none-room peer at n true close e h = absurd (true≢false e)
+none-room peer at n false close e h = h
+
 -- and where they end
 pub close-count : (peer at : ℕ) (close : Bool) → close ≡ true → at + 9 ≡ at + length (frames (marked peer false close))
 close-count peer at true e = omega (arith, marks-length peer false true)

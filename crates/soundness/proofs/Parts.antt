@@ -7,11 +7,13 @@ use mathlib.Core.Path.{◌≡◌, refl, sym, ap, ◌∙◌}
 use mathlib.Core.Bool.{Bool, true, false, ◌&&◌, ◌||◌, and_assoc, and-true, and-false, or_assoc}
 use mathlib.Core.List.{List, [], ◌∷◌}
 use lib.ListN.{length, drop, take, get_or}
-use lib.Dec.{eqb}
+use lib.Dec.{leb, eqb}
+use borrow.Author.Tests.{eq-eqb, ne_eqb, eqb-true, eqb-false, leb-true}
+use Rattle.laws.proofs.Tests.{by_test, and_both}
 use Rattle.laws.specs.Clauses as Cl
 use Rattle.channel.specs.declared.Table as D
 use Rattle.channel.specs.declared.Entry as E
-use Rattle.channel.specs.State.{any_entry}
+use Rattle.channel.specs.State.{most_entries, any_entry}
 use Rattle.channel.specs.Raw.{Raw, entries_of, meaning}
 use Rattle.channel.specs.Raw as R
 use Rattle.channel.specs.Sound.{unused_zero, entries_zero, distinct, all_named, all_marked, sum_left, whole_frames, is_sound}
@@ -19,6 +21,12 @@ use Rattle.channel.specs.Sound as O
 use Rattle.lookup.proofs.Walk.{any_next, any_bytes, named_bytes, marked-same}
 use Rattle.soundness.specs.Tested.{Sized, sizes, limited, listed, places_in, entries_in, tidy, entries_sound, marks_sound}
 use Rattle.soundness.specs.Tested as T
+
+eqb_swap : (a b : ℕ) → eqb a b ≡ eqb b a
+eqb_swap a b =
+    by_test (eqb a b)
+    (λ t. t ∙ sym (eq-eqb b a (sym (eqb-true a b t))))
+    (λ t. t ∙ sym (ne_eqb b a (λ e. eqb-false a b t (sym e))))
 
 -- THE LOOK OVER THE TABLE, at each way out
 
@@ -38,6 +46,12 @@ module _ (t : D.Table) where
   pub tidy-is : unused_zero t.used t.records ≡ true → distinct (places_in t) ≡ true → entries_zero (drop t.entry_count t.entries) ≡ true → tidy t ≡ true
   unfolding T.tidy
   tidy-is p d z = rw (p, d, z)
+
+  pub tidy-distinct : tidy t ≡ true → distinct (places_in t) ≡ true
+  unfolding T.tidy
+  tidy-distinct e =
+      let a = and_both (unused_zero t.used t.records) (entries_zero (drop t.entry_count t.entries) && distinct (places_in t)) e in
+      (and_both (entries_zero (drop t.entry_count t.entries)) (distinct (places_in t)) a.1).1
 
 -- THE ENTRIES in use, and those past them
 
@@ -104,6 +118,17 @@ module _ (r : Raw) where
       let m : all_marked es (places_in r.held) ≡ all_marked (entries_in r.held) (places_in r.held) =
       marked-same es (entries_in r.held) (places_in r.held) (any_bytes r.held.entry_count r.held.entries _ _) in
       rw (n, m) (simp (and_assoc, and-true))
+
+  -- within its limits
+  pub limits_few : limited r ≡ true → r.held.entry_count ≤ most_entries
+  limits_few l =
+      leb-true _ _ (and_both (sizes r && leb r.held.staged_used (length r.staged) && leb r.held.sent_used (length r.sent)) _ l).1
+
+  pub limits_staged : limited r ≡ true → r.held.staged_used ≤ length r.staged
+  limits_staged l =
+      let a = and_both (sizes r && leb r.held.staged_used (length r.staged) && leb r.held.sent_used (length r.sent)) _ l in
+      let b = and_both (sizes r && leb r.held.staged_used (length r.staged)) _ a.0 in
+      leb-true _ _ (and_both (sizes r) _ b.0).1
 
   -- each way out
   pub sound_limits : limited r ≡ false → is_sound r ≡ false

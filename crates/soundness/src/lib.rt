@@ -104,9 +104,9 @@ fn look_over(t: &Table) -> Option<Look>
 // The first place that has the number.
 #[cold]
 pub fn scan(t: &Table, n: ChannelId) -> Option<usize>
-    requires { length t.now.records ≡ place_count }
     ensures { PlaceIs t.now n.0 result }
 {
+    typed(t, &[], &[], &[]);
     (0..t.records.len()).find(|i| place_has(t, *i, n))
 }
 

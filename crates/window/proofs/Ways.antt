@@ -48,7 +48,7 @@ module _ {r : Raw} (ty : Typed r) (sd : is_sound r ≡ true) (n : ℕ) where
   unfolding I.window_at
   window-none h = window-is 0 (ap window_at (none-look r n h))
 
-  pending-none : look n (places_of r.held.used r.held.records) ≡ nowhere → called r (act (has_pending n)) ≡ record { answer = gave (pending_is false); state = r }
+  pub pending-none : look n (places_of r.held.used r.held.records) ≡ nowhere → called r (act (has_pending n)) ≡ record { answer = gave (pending_is false); state = r }
   unfolding T.some
   pending-none h =
       pending-is false
@@ -59,7 +59,7 @@ pub window-found : {r : Raw} → Typed r → {n : ℕ} {x : Found} → FoundIn r
 unfolding I.window_at
 window-found {r} ty {n} {x} h = window-is ty h.sound n _ (ap window_at (held-look r n x.place h.held))
 
-pending-found : {r : Raw} → Typed r → {n : ℕ} {x : Found} → FoundIn r n x → called r (act (has_pending n)) ≡ record { answer = gave (pending_is x.waits); state = r }
+pub pending-found : {r : Raw} → Typed r → {n : ℕ} {x : Found} → FoundIn r n x → called r (act (has_pending n)) ≡ record { answer = gave (pending_is x.waits); state = r }
 pending-found {r} ty {n} {x} h = pending-is ty h.sound n x.waits (has_is r n ∙ sym h.waits_is)
 
 -- by what was looked up, and what the answer is of it

@@ -6,9 +6,6 @@ use Rattle.pending.specs.Plan.{sent_by}
 use Rattle.pending.proofs.CallLaws.{unknown_is}
 use Rattle.pending.proofs.flush_next.Goals as goal
 
-pub scan-requires : goal.scan-requires
-scan-requires c = c.typed_lent.ensures.places
-
 pub returns-in-None : goal.returns-in-None
 unfolding A.answer A.refusal A.refusal_number
 returns-in-None c =
