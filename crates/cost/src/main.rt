@@ -7,7 +7,7 @@ use channel::{ChannelId, PeerNumber, Refusal, Table, zero_record};
 use input::read_full;
 use soundness::see;
 use std::io::Read;
-use std::time::CpuClock;
+use std::time::{CpuClock, Duration};
 use std::{fmt, io};
 
 // A confirmed channel more on each of the numbers 2 to end - 1.
@@ -51,28 +51,21 @@ fn copy(t: &Table, rounds: u32) -> u64 {
     (0..rounds).fold(0u64, |sum, i| sum.wrapping_add(window_in_copy(t, i)))
 }
 
-// The processor time used so far, in microseconds; none where the clock fails.
-fn micros(rt: &impl CpuClock) -> Option<u64> {
-    let used = rt.process_cpu_time().ok()?;
-    u64::try_from(used.as_micros()).ok()
+// The processor time used so far, in microseconds; 0 where the clock fails.
+fn micros(rt: &impl CpuClock) -> u64 {
+    let used = rt.process_cpu_time().unwrap_or(Duration::ZERO);
+    u64::try_from(used.as_micros()).unwrap_or(u64::MAX)
 }
 
-// The microseconds from one time to a later one; none where either is none.
-fn between(start: Option<u64>, end: Option<u64>) -> Option<u64> {
-    end?.checked_sub(start?)
-}
+// More microseconds than any pass takes.
+const NEVER: u64 = 1000000000;
 
-// The least pass, with one more to choose from, which counts only where the clock gave its time.
-fn least(so_far: Option<u64>, pass: Option<u64>) -> Option<u64> {
-    pass.map_or(so_far, |n| Some(so_far.map_or(n, |least| least.min(n))))
-}
-
-// What the passes over one table came to: the fewest microseconds of a pass of each kind, none before the first, how often the table was
-// sound, and the windows that were read from its copies.
+// What the passes over one table came to: the fewest microseconds of a pass of each kind, how often the table was sound, and the windows
+// that were read from its copies.
 #[derive(Drop)]
 struct Measured {
-    sound: Option<u64>,
-    copy: Option<u64>,
+    sound: u64,
+    copy: u64,
     yes: u64,
     read: u64,
 }
@@ -81,8 +74,8 @@ impl Measured {
     // Several passes, of each kind in turn.
     fn of(rt: &impl CpuClock, t: &Table, rounds: u32, passes: u32) -> Measured {
         let mut m = Measured {
-            sound: None,
-            copy: None,
+            sound: NEVER,
+            copy: NEVER,
             yes: 0,
             read: 0,
         };
@@ -99,8 +92,8 @@ impl Measured {
         let middle = micros(rt);
         self.read = self.read.wrapping_add(copy(t, rounds));
         let end = micros(rt);
-        self.sound = least(self.sound, between(start, middle));
-        self.copy = least(self.copy, between(middle, end));
+        self.sound = self.sound.min(middle.wrapping_sub(start));
+        self.copy = self.copy.min(end.wrapping_sub(middle));
     }
 }
 
@@ -114,19 +107,16 @@ impl fmt::Display for Hundredths {
     }
 }
 
-// Of 100,000 rounds, the nanoseconds of one: 100 microseconds of the whole are a nanosecond of each. No times where the clock failed, and
-// no ratio where a copy took none.
+// Of 100,000 rounds, the nanoseconds of one: 100 microseconds of the whole are a nanosecond of each. No ratio where a copy took none, or
+// where no pass was timed.
 fn show_times(rt: &impl Print, m: &Measured) -> io::Result<()> {
-    let (Some(sound), Some(copy)) = (m.sound, m.copy) else {
-        return print!(rt; ", no clock");
-    };
     print!(rt;
         ", {} ns, a copy {} ns, ratio ",
-        Hundredths(sound),
-        Hundredths(copy)
+        Hundredths(m.sound),
+        Hundredths(m.copy)
     )?;
-    if let Some(ratio) = sound.checked_mul(100).and_then(|n| n.checked_div(copy)) {
-        print!(rt; "{}", Hundredths(ratio))?;
+    if m.sound < NEVER && m.copy > 0 {
+        print!(rt; "{}", Hundredths(m.sound * 100 / m.copy))?;
     }
     Ok(())
 }
@@ -134,8 +124,9 @@ fn show_times(rt: &impl Print, m: &Measured) -> io::Result<()> {
 // One case: its counts, and its times where they are asked for.
 fn show(rt: &(impl Print + CpuClock), name: &str, t: &Table, timed: bool) -> io::Result<()> {
     let (rounds, passes) = if timed { (100000, 7) } else { (100, 1) };
+    print!(rt; "{name}")?;
     let m = Measured::of(rt, t, rounds, passes);
-    print!(rt; "{name}: sound {} times, windows read {}", m.yes, m.read)?;
+    print!(rt; ": sound {} times, windows read {}", m.yes, m.read)?;
     if timed {
         show_times(rt, &m)?;
     }

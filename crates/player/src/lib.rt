@@ -4,8 +4,10 @@
 mod call;
 mod fields;
 mod lab;
+mod lent;
 mod script;
 
-pub use fields::Strings;
-pub use lab::{Lab, Played};
+pub use fields::{Strings, u32_at};
+pub use lab::Lab;
+pub use lent::{Played, fill, play};
 pub use script::play_script;

@@ -1,7 +1,7 @@
 // A script whole: the lengths of the buffers, and then calls.
 ghost use Rattle.std.specs.Prelude.{◌≤◌, length, IfOk, IfSome};
 
-use crate::fields::Fields;
+use crate::fields::u32_at;
 use crate::lab::Lab;
 use answers::Numbers;
 use std::alloc::Global;
@@ -12,13 +12,8 @@ const LONGEST: usize = 65537;
 
 // The lengths of queue, staged and sent, which a script begins with.
 fn lengths(script: &[u8]) -> Option<[usize; 3]> {
-    let mut fields = Fields(script);
-    let lengths = [
-        fields.u32()? as usize,
-        fields.u32()? as usize,
-        fields.u32()? as usize,
-    ];
-    lengths.iter().all(|n| *n <= LONGEST).then_some(lengths)
+    let lengths = [0, 4, 8].map(|at| u32_at(script, at) as usize);
+    (script.len() >= 12 && lengths.iter().all(|n| *n <= LONGEST)).then_some(lengths)
 }
 
 // Plays a script, and calls `after` with each call's answer and the state that it leaves. Answers the place of what is no call, where the

@@ -1,21 +1,27 @@
 // Plays a script of calls and shows every answer and the whole state after each call. docs/REPLAY.md has the format.
 #![tactic(auto)]
 
+use input::read_full;
 use player::play_script;
-use shown::{Answer, NoCall, State};
+use shown::{Answer, NoCall, Output, State};
+use std::alloc::Global;
 use std::io;
-use std::io::{BufWriter, Read, Write};
+use std::io::Write;
 
-// The script is what standard input has, up to 262,144 bytes.
-fn main(rt: HostRuntime) -> io::Result<()> {
-    let mut script = Vec::new(rt.alloc());
-    rt.stdin().take(262144).read_to_end(&mut script)?;
-    let mut out = BufWriter::new(rt.alloc(), io::writer(&rt))?;
-    let end = play_script(rt.alloc(), script.as_slice(), |answer, lab| {
-        write!(out, "{}\n{}", Answer(answer), State(lab))
+// What is written of a script: an answer and a state for each call, and where it ends in what is no call.
+fn write_played<W: Write>(out: &mut W, alloc: Global, script: &[u8]) -> io::Result<()> {
+    let end = play_script(alloc, script, |answer, lab| {
+        write!(out, "{}\n{}", Answer(answer), State::of(lab))
     })?;
     if let Some(place) = end {
         writeln!(out, "{}", NoCall(place))?;
     }
     out.flush()
+}
+
+// The script is what standard input has, up to 262,144 bytes.
+fn main(rt: HostRuntime) -> io::Result<()> {
+    let mut script = [0u8; 262144];
+    let n = read_full(&mut rt.stdin(), &mut script)?;
+    write_played(&mut Output::new(io::writer(&rt)), rt.alloc(), &script[..n])
 }

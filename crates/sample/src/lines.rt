@@ -1,8 +1,7 @@
 // The lines that the Rust draft can show too. It has a queue for each channel and no places, so records and entries go by number.
 use channel::{ChannelId, Table};
-use lookup::place_used;
 use player::{Lab, Strings};
-use shown::{Fields, Hex, KindFields};
+use shown::{Fields, Hex, KindFields, is_used};
 use std::alloc::{AllocError, Global};
 use std::collections::BTreeSet;
 use std::io;
@@ -12,7 +11,7 @@ use std::io::Write;
 fn numbers(alloc: Global, t: &Table) -> Result<BTreeSet<ChannelId>, AllocError> {
     let mut numbers = BTreeSet::new(alloc);
     for (place, record) in t.records.iter().enumerate() {
-        if place_used(t, place) {
+        if is_used(t.used, place) {
             numbers.insert(record.sender_channel)?;
         }
     }
@@ -22,7 +21,7 @@ fn numbers(alloc: Global, t: &Table) -> Result<BTreeSet<ChannelId>, AllocError> 
 // The line of the record with a number.
 fn write_record<W: Write>(out: &mut W, t: &Table, number: ChannelId) -> io::Result<()> {
     for (place, record) in t.records.iter().enumerate() {
-        if place_used(t, place) && record.sender_channel == number {
+        if is_used(t.used, place) && record.sender_channel == number {
             writeln!(out, "c {}", Fields(record))?;
         }
     }

@@ -4,26 +4,43 @@
 
 mod lines;
 
+use input::read_full;
 use lines::write_compared;
 use player::{Strings, play_script};
-use shown::{Answer, NoCall};
+use shown::{Answer, NoCall, Output};
+use std::alloc::Global;
 use std::io;
-use std::io::{BufWriter, Read, Write};
+use std::io::Write;
+
+// What is written of a script, with its number in the file, and written out before the next script is played.
+fn write_played<W: Write>(
+    out: &mut W,
+    alloc: Global,
+    number: usize,
+    script: &[u8],
+) -> io::Result<()> {
+    writeln!(out, "script {number}")?;
+    let end = play_script(alloc, script, |answer, lab| {
+        writeln!(out, "{}", Answer(answer))?;
+        write_compared(out, alloc, lab)
+    })?;
+    if let Some(place) = end {
+        writeln!(out, "{}", NoCall(place))?;
+    }
+    out.flush()
+}
+
+// Every script of the file, each behind its length, up to one that is cut short.
+fn write_file<W: Write>(out: &mut W, alloc: Global, file: &[u8]) -> io::Result<()> {
+    for (number, script) in Strings(file).enumerate() {
+        write_played(out, alloc, number, script)?;
+    }
+    Ok(())
+}
 
 // The file is what standard input has, up to 262,144 bytes.
 fn main(rt: HostRuntime) -> io::Result<()> {
-    let mut file = Vec::new(rt.alloc());
-    rt.stdin().take(262144).read_to_end(&mut file)?;
-    let mut out = BufWriter::new(rt.alloc(), io::writer(&rt))?;
-    for (number, script) in Strings(file.as_slice()).enumerate() {
-        writeln!(out, "script {number}")?;
-        let end = play_script(rt.alloc(), script, |answer, lab| {
-            writeln!(out, "{}", Answer(answer))?;
-            write_compared(&mut out, rt.alloc(), lab)
-        })?;
-        if let Some(place) = end {
-            writeln!(out, "{}", NoCall(place))?;
-        }
-    }
-    out.flush()
+    let mut file = [0u8; 262144];
+    let n = read_full(&mut rt.stdin(), &mut file)?;
+    write_file(&mut Output::new(io::writer(&rt)), rt.alloc(), &file[..n])
 }
