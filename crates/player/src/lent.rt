@@ -14,9 +14,14 @@ pub struct Played {
     pub size: usize,
 }
 
-// Every byte of a buffer, as it is before the first call: 251 bytes, again and again.
+// The bytes that a buffer has before the first call, again and again.
+pub(crate) fn first_bytes() -> [u8; 251] {
+    array::from_fn(|i| ((7 * (i % 251) + 13) % 251) as u8)
+}
+
+// Every byte of a buffer, as it is before the first call.
 pub fn fill(buf: &mut [u8]) {
-    let pattern: [u8; 251] = array::from_fn(|i| ((7 * (i % 251) + 13) % 251) as u8);
+    let pattern = first_bytes();
     for part in buf.chunks_mut(251) {
         if let Some(bytes) = pattern.get(..part.len()) {
             part.copy_from_slice(bytes);

@@ -2,13 +2,9 @@
 ghost use Rattle.std.specs.Prelude.{◌≤◌, length, IfOk, IfSome};
 
 use crate::fields::u32_at;
-use crate::lab::Lab;
+use crate::lab::{LONGEST, Lab};
 use answers::Numbers;
-use std::alloc::Global;
 use std::io;
-
-// The longest buffer: a byte more than a sound state allows.
-const LONGEST: usize = 65537;
 
 // The lengths of queue, staged and sent, which a script begins with.
 fn lengths(script: &[u8]) -> Option<[usize; 3]> {
@@ -16,20 +12,18 @@ fn lengths(script: &[u8]) -> Option<[usize; 3]> {
     (script.len() >= 12 && lengths.iter().all(|n| *n <= LONGEST)).then_some(lengths)
 }
 
-// Plays a script, and calls `after` with each call's answer and the state that it leaves. Answers the place of what is no call, where the
-// script has such, and 0 where it doesn't begin with three lengths.
-pub fn play_script<F: FnMut(&Numbers, &Lab) -> io::Result<()>>(
-    alloc: Global,
+// Plays the calls of a script, which stand behind the lengths of its buffers. Not inlined: where none is played the buffers take no room.
+#[inline(never)]
+fn play_calls<F: FnMut(&Numbers, &Lab) -> io::Result<()>>(
+    lengths: [usize; 3],
     script: &[u8],
     mut after: F,
 ) -> io::Result<Option<usize>>
     requires { F.IsAlwaysCallable after }
     ensures { IfOk result (λ end. IfSome end (λ place. place ≤ length script.now)) }
 {
-    let Some(lengths) = lengths(script) else {
-        return Ok(Some(0));
-    };
-    let mut lab = Lab::new(alloc, lengths)?;
+    let mut lab = Lab::new();
+    lab.begin(lengths);
     let mut place = 12;
     // A loop by hand: each step is as long as the call that was made, so no range or iterator counts it.
     while place < script.len() {
@@ -40,6 +34,21 @@ pub fn play_script<F: FnMut(&Numbers, &Lab) -> io::Result<()>>(
         after(&played.answer, &lab)?;
     }
     Ok(None)
+}
+
+// Plays a script, and calls `after` with each call's answer and the state that it leaves. Answers the place of what is no call, where the
+// script has such, and 0 where it doesn't begin with three lengths.
+pub fn play_script<F: FnMut(&Numbers, &Lab) -> io::Result<()>>(
+    script: &[u8],
+    after: F,
+) -> io::Result<Option<usize>>
+    requires { F.IsAlwaysCallable after }
+    ensures { IfOk result (λ end. IfSome end (λ place. place ≤ length script.now)) }
+{
+    let Some(lengths) = lengths(script) else {
+        return Ok(Some(0));
+    };
+    play_calls(lengths, script, after)
 }
 
 #[cfg(test)]
@@ -56,7 +65,7 @@ mod tests {
     #[test]
     fn up_to_what_is_no_call(rt: HostRuntime) -> Result<(), Fail> {
         let mut refusals = Vec::new(rt.alloc());
-        let end = play_script(rt.alloc(), WORKED, |answer, _| {
+        let end = play_script(WORKED, |answer, _| {
             refusals.push(answer.refusal)?;
             Ok(())
         })?;
@@ -67,14 +76,8 @@ mod tests {
 
     #[test]
     fn up_to_the_end(rt: HostRuntime) -> Result<(), Fail> {
-        assert_eq!(rt;
-            play_script(rt.alloc(), &WORKED[..37], |_, _| Ok(()))?,
-            None
-        );
-        assert_eq!(rt;
-            play_script(rt.alloc(), &WORKED[..11], |_, _| Ok(()))?,
-            Some(0)
-        );
+        assert_eq!(rt; play_script(&WORKED[..37], |_, _| Ok(()))?, None);
+        assert_eq!(rt; play_script(&WORKED[..11], |_, _| Ok(()))?, Some(0));
         Ok(())
     }
 }

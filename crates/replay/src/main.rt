@@ -4,13 +4,12 @@
 use input::read_full;
 use player::play_script;
 use shown::{Answer, NoCall, Output, State};
-use std::alloc::Global;
 use std::io;
 use std::io::Write;
 
 // What is written of a script: an answer and a state for each call, and where it ends in what is no call.
-fn write_played<W: Write>(out: &mut W, alloc: Global, script: &[u8]) -> io::Result<()> {
-    let end = play_script(alloc, script, |answer, lab| {
+fn write_played<W: Write>(out: &mut W, script: &[u8]) -> io::Result<()> {
+    let end = play_script(script, |answer, lab| {
         write!(out, "{}\n{}", Answer(answer), State::of(lab))
     })?;
     if let Some(place) = end {
@@ -23,5 +22,5 @@ fn write_played<W: Write>(out: &mut W, alloc: Global, script: &[u8]) -> io::Resu
 fn main(rt: HostRuntime) -> io::Result<()> {
     let mut script = [0u8; 262144];
     let n = read_full(&mut rt.stdin(), &mut script)?;
-    write_played(&mut Output::new(io::writer(&rt)), rt.alloc(), &script[..n])
+    write_played(&mut Output::new(io::writer(&rt)), &script[..n])
 }

@@ -1,21 +1,22 @@
 // The lines that the Rust draft can show too. It has a queue for each channel and no places, so records and entries go by number.
+use arrayvec::ArrayVec;
 use channel::{ChannelId, Table};
 use player::{Lab, Strings};
 use shown::{Fields, Hex, KindFields, is_used};
-use std::alloc::{AllocError, Global};
-use std::collections::BTreeSet;
 use std::io;
 use std::io::Write;
 
-// The numbers of the channels, in ascending order.
-fn numbers(alloc: Global, t: &Table) -> Result<BTreeSet<ChannelId>, AllocError> {
-    let mut numbers = BTreeSet::new(alloc);
+// The numbers of the channels, in ascending order, each once. There is room for them: a table has 32 places.
+fn numbers(t: &Table) -> ArrayVec<u32, 32> {
+    let mut numbers = ArrayVec::new();
     for (place, record) in t.records.iter().enumerate() {
-        if is_used(t.used, place) {
-            numbers.insert(record.sender_channel)?;
+        let number = record.sender_channel.0;
+        if is_used(t.used, place) && !numbers.as_slice().contains(&number) {
+            let _ = numbers.try_push(number);
         }
     }
-    Ok(numbers)
+    numbers.as_mut_slice().sort_unstable();
+    numbers
 }
 
 // The line of the record with a number.
@@ -52,15 +53,15 @@ fn write_frames<W: Write>(out: &mut W, name: char, used: usize, bytes: &[u8]) ->
 }
 
 // The lines of a state.
-pub fn write_compared<W: Write>(out: &mut W, alloc: Global, lab: &Lab) -> io::Result<()> {
+pub fn write_compared<W: Write>(out: &mut W, lab: &Lab) -> io::Result<()> {
     let t = &lab.table;
-    let numbers = numbers(alloc, t)?;
+    let numbers = numbers(t);
     writeln!(out, "t {}", t.last)?;
-    for n in numbers.iter() {
-        write_record(out, t, *n)?;
+    for n in numbers.as_slice() {
+        write_record(out, t, ChannelId(*n))?;
     }
-    for n in numbers.iter() {
-        write_entries(out, lab, *n)?;
+    for n in numbers.as_slice() {
+        write_entries(out, lab, ChannelId(*n))?;
     }
     write_frames(out, 's', t.staged_used, lab.staged.as_slice())?;
     write_frames(out, 'o', t.sent_used, lab.sent.as_slice())

@@ -65,8 +65,8 @@ struct Look {
 // type, and that no more entries are counted than there are, which `within_limits` has tested. It is no invariant of the type: C passes any
 // counts.
 
-// The number is used at a place from `first` on. The number is asked for before the mark: where many share a slot, few places have it, and
-// with `place_has` the test took 1.35 times as long there.
+// The number is used at a place from `first` on. It is asked for before the mark: where many numbers share a slot, most places have another
+// one, and with `place_has` the test took 1.6 times as long there.
 fn used_from(t: &Table, first: usize, n: ChannelId) -> bool
     requires sized { Sized t.now }
     requires first_in { first ≤ place_count }
